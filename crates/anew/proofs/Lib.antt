@@ -5,6 +5,7 @@ pub mod lists
 pub mod widths
 pub mod Laws
 pub mod PlanWords
+pub mod ByWords
 pub mod Standing
 pub mod Planted
 pub mod Owned

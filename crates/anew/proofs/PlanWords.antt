@@ -152,21 +152,25 @@ module _ (formats schema : List ℕ) (target n : ℕ) (keep : ℕ → Bool) (joi
       ∙ filled-at (λ k. 8 * k + 7) (dictionaryWord joined) (λ a b e. omega arith) n nulled i l (omega (arith, nulled-length))
       ∙ dictionary-same (wordedUpTo i) plan i (dictionary-before i i (omega arith))
 
+  -- the words behind those of the nodes are 0, but for the numbers of the whole
+  pub none-else : (p : ℕ) → 256 ≤ p → p < 872 → (p ≡ 864 → ⊥) → (p ≡ 865 → ⊥) → (p ≡ 866 → ⊥) → (p ≡ keptWord → ⊥) → getD plan p 0 ≡ 0
+  unfolding withTree withCounts
+  none-else p l h a b d k =
+      after-parts p d
+      ∙ after-kept p (λ i m e. omega arith)
+      ∙ after-dictionaries p k
+      ∙ after-nulls p (λ i m e. omega arith)
+      ∙ after-tree p (λ i m e. omega arith)
+      ∙ getD-set-other (set (withTree tree) 864 1) 865 p n 0 b
+      ∙ getD-set-other (withTree tree) 864 p 1 0 a
+      ∙ filled-other (λ q. q) (λ s q. getD tree q 0) 256 (replicate 872 0) p (λ j m e. omega arith)
+      ∙ getD-replicate 872 p 0 0 h
+
   -- ---- bases
 
   -- what is added to keys and buffer numbers is 0
   pub base-none : (i : ℕ) → i < 32 → baseOf plan 0 i ≡ 0
-  unfolding withTree
-  base-none i l =
-      let p = 352 + (32 * 0 + i) in
-      after-parts p (λ e. omega arith)
-      ∙ after-kept p (λ k a e. omega arith)
-      ∙ after-dictionaries p (λ e. omega arith)
-      ∙ after-nulls p (λ k a e. omega arith)
-      ∙ after-tree p (λ k a e. omega arith)
-      ∙ bare-word p (omega arith)
-      ∙ filled-other (λ q. q) (λ s q. getD tree q 0) 256 (replicate 872 0) p (λ j a e. omega arith)
-      ∙ getD-replicate 872 p 0 0 (omega arith)
+  base-none i l = none-else (352 + (32 * 0 + i)) (omega arith) (omega arith) (λ e. omega arith) (λ e. omega arith) (λ e. omega arith) (λ e. omega arith)
 
   -- ---- parts
 
@@ -234,13 +238,7 @@ module _ (formats schema : List ℕ) (target n : ℕ) (keep : ℕ → Bool) (joi
 
   -- a call that writes anew adds no run for a gap: the choice is off
   pub no-choice : getD plan 867 0 ≡ 0
-  unfolding withCounts withTree
-  no-choice =
-      counters-from 867 (omega arith) (omega arith) (λ e. omega arith)
-      ∙ getD-set-other (set (withTree tree) 864 1) 865 867 n 0 (λ e. omega arith)
-      ∙ getD-set-other (withTree tree) 864 867 1 0 (λ e. omega arith)
-      ∙ filled-other (λ q. q) (λ s q. getD tree q 0) 256 (replicate 872 0) 867 (λ j a e. omega arith)
-      ∙ getD-replicate 872 867 0 0 (omega arith)
+  no-choice = none-else 867 (omega arith) (omega arith) (λ e. omega arith) (λ e. omega arith) (λ e. omega arith) (λ e. omega arith)
 
   -- from which node on all are kept
   pub kept-is : getD plan keptWord 0 ≡ keptFrom

@@ -10,6 +10,7 @@ use Rattle.array_data.specs.Tables.{Tables}
 use Rattle.plan.specs.dictionaries.Sources.{arrayOf, Countable}
 use Rattle.array_data.specs.node_words.Words.{planted}
 use Rattle.walk.specs.State.{dictionaryOf}
+use Rattle.plan.specs.parts.Parts.{partsBefore}
 use Rattle.plan.specs.Plan.{filled, flag, withTree, withCounts, withParts, withTotal}
 
 -- ---- which nodes keep nulls
@@ -49,3 +50,12 @@ typedAnew formats schema target n keep joined keptFrom =
 -- THE PLAN OF A RESULT whose type is that of the n nodes from node `target` on, for one source; bases stay 0
 unfoldable pub planAnew : List ℕ → List ℕ → ℕ → ℕ → (ℕ → Bool) → Bool → ℕ → List ℕ
 planAnew formats schema target n keep joined keptFrom = withTotal (withParts n (typedAnew formats schema target n keep joined keptFrom))
+
+-- ---- the same by the words of its nodes
+
+unfoldable pub wordsAnew : List ℕ → List ℕ → ℕ → ℕ → (ℕ → Bool) → Bool → List ℕ
+wordsAnew formats schema target n keep joined = withParts n (withDictionaries joined n (withNulls keep n (planted formats schema target n)))
+
+-- a plan by the words of its n nodes, which decide its parts
+unfoldable pub planBy : List ℕ → ℕ → ℕ → List ℕ
+planBy words n keptFrom = set (set (withCounts 1 n (withTree words)) 866 (partsBefore words n)) keptWord keptFrom

@@ -2,14 +2,18 @@
 ghost use mathlib.Core.Path.{_≡_};
 ghost use mathlib.Core.List.{List};
 ghost use Prim.Native.Nat.{ℕ, _≤_, _<_, _^_};
-ghost use lib.ListN.{length};
+ghost use lib.ListN.{length, replicate};
 ghost use Rattle.array_data.specs.lent_tables.Lent.{tables};
-ghost use Rattle.plan.specs.Plan.{flag};
+ghost use Rattle.plan.specs.Plan.{flag, withTree, withParts};
 ghost use Rattle.anew.specs.Anew.{roomGround};
-ghost use Rattle.anew.specs.ResultPlan.{keepsFrom, Comes, withNulls, dictionaryWord, withDictionaries, planAnew};
+ghost use Rattle.anew.specs.ResultPlan.{keepsFrom, Comes, withNulls, dictionaryWord, withDictionaries, wordsAnew, planBy, planAnew};
 use array_data::lent_tables;
+use array_data::node_words;
 use plan::dictionaries;
 use walk::plan_words;
+
+// The words of 32 nodes, with which a plan begins.
+pub const NODE_WORDS: usize = 256;
 
 // ---- the plan
 
@@ -44,24 +48,24 @@ fn write_nulls(
     first: usize,
     from: &[u64],
     n: usize,
-    plan: &mut [u64; plan_words::WORDS],
+    words: &mut [u64; NODE_WORDS],
 )
     requires { ⌜ (n ≤ 32) × (first < 2 ^ 32) × Comes (tables (now lengths) (now places) (now body)) first n (now from) ⌝ }
-    ensures { λ _. ⌜ now (plan .exit) ≡ withNulls (keepsFrom (tables (now (lengths .entry)) (now (places .entry)) (now (body .entry))) first (now (from .entry))) n (now (plan .entry)) ⌝ }
+    ensures { λ _. ⌜ now (words .exit) ≡ withNulls (keepsFrom (tables (now (lengths .entry)) (now (places .entry)) (now (body .entry))) first (now (from .entry))) n (now (words .entry)) ⌝ }
 {
     let mut i = 0;
     while i < n {
-        plan[8 * i + 5] = null_word(lengths, places, body, first, from, n, i);
+        words[8 * i + 5] = null_word(lengths, places, body, first, from, n, i);
         i += 1;
     }
 }
 
 // 1 if node i has a dictionary and dictionaries are in parts, and else 0.
-fn dictionary_word(joined: bool, plan: &[u64; plan_words::WORDS], i: usize) -> u64
+fn dictionary_word(joined: bool, words: &[u64; NODE_WORDS], i: usize) -> u64
     requires { ⌜ i < 32 ⌝ }
-    ensures { λ r. ⌜ r ≡ dictionaryWord joined (now (plan .entry)) i ⌝ }
+    ensures { λ r. ⌜ r ≡ dictionaryWord joined (now (words .entry)) i ⌝ }
 {
-    if plan_words::dictionary_of(plan, i) == 0 {
+    if plan_words::dictionary_of(words, i) == 0 {
         return 0;
     }
     if joined {
@@ -71,19 +75,91 @@ fn dictionary_word(joined: bool, plan: &[u64; plan_words::WORDS], i: usize) -> u
 }
 
 // Which of the first n nodes have a dictionary in parts.
-fn write_dictionaries(joined: bool, n: usize, plan: &mut [u64; plan_words::WORDS])
+fn write_dictionaries(joined: bool, n: usize, words: &mut [u64; NODE_WORDS])
     requires { ⌜ n ≤ 32 ⌝ }
-    ensures { λ _. ⌜ now (plan .exit) ≡ withDictionaries joined n (now (plan .entry)) ⌝ }
+    ensures { λ _. ⌜ now (words .exit) ≡ withDictionaries joined n (now (words .entry)) ⌝ }
 {
     let mut i = 0;
     while i < n {
-        plan[8 * i + 7] = dictionary_word(joined, plan, i);
+        words[8 * i + 7] = dictionary_word(joined, words, i);
         i += 1;
     }
 }
 
-// THE PLAN OF A RESULT whose type is that of the n nodes from node `target` on. Its nodes come from those of the column from node `first` on
-// as `from` says: one more than the number of such a node, 0 for none. From node `kept` on all are kept, where it is not 0.
+// The part of the first buffer of each of the first n nodes.
+fn write_parts(n: usize, words: &mut [u64; NODE_WORDS])
+    requires { ⌜ n ≤ 32 ⌝ }
+    ensures { λ _. ⌜ now (words .exit) ≡ withParts n (now (words .entry)) ⌝ }
+{
+    let mut i = 0;
+    while i < n {
+        words[8 * i + 6] = plan::parts::part_word(words, i);
+        i += 1;
+    }
+}
+
+// THE WORDS OF A RESULT'S NODES, whose type is that of the n nodes from node `target` on. They come from those of the column from node `first`
+// on as `from` says: one more than the number of such a node, 0 for none.
+pub fn words_anew(
+    formats: &[u8],
+    schema: &[u32],
+    target: usize,
+    n: usize,
+    lengths: &[u64],
+    places: &[u64],
+    body: &[u8],
+    first: usize,
+    from: &[u64],
+    joined: bool,
+    words: &mut [u64; NODE_WORDS],
+)
+    requires { ⌜ (target < 2 ^ 32) × (n ≤ 32) × (first < 2 ^ 32) × Comes (tables (now lengths) (now places) (now body)) first n (now from) ⌝ }
+    ensures { λ _. ⌜ now (words .exit) ≡ wordsAnew (now (formats .entry)) (now (schema .entry)) target n (keepsFrom (tables (now (lengths .entry)) (now (places .entry)) (now (body .entry))) first (now (from .entry))) joined ⌝ }
+{
+    node_words::plant(formats, schema, target, n, words);
+    write_nulls(lengths, places, body, first, from, n, words);
+    write_dictionaries(joined, n, words);
+    write_parts(n, words);
+}
+
+// Zeros.
+pub fn clear(t: &mut [u64])
+    ensures { λ _. ⌜ now (t .exit) ≡ replicate (length (now (t .entry))) 0 ⌝ }
+{
+    let n = t.len();
+    let mut i = 0;
+    while i < n {
+        t[i] = 0;
+        i += 1;
+    }
+}
+
+// The words of the nodes over zeros.
+fn put_words(words: &[u64; NODE_WORDS], plan: &mut [u64])
+    requires { ⌜ now plan ≡ replicate 872 0 ⌝ }
+    ensures { λ _. ⌜ now (plan .exit) ≡ withTree (now (words .entry)) ⌝ }
+{
+    let mut q = 0;
+    while q < NODE_WORDS {
+        plan[q] = words[q];
+        q += 1;
+    }
+}
+
+// The plan by the words of its n nodes. From node `kept` on all are kept, where it is not 0.
+pub fn plan_by(words: &[u64; NODE_WORDS], n: usize, kept: u64, plan: &mut [u64])
+    requires { ⌜ (n ≤ 32) × (length (now plan) ≡ 872) ⌝ }
+    ensures { λ _. ⌜ now (plan .exit) ≡ planBy (now (words .entry)) n kept ⌝ }
+{
+    clear(plan);
+    put_words(words, plan);
+    plan[plan_words::SOURCE_COUNT] = 1;
+    plan[plan_words::NODE_COUNT] = n as u64;
+    plan[plan_words::PART_COUNT] = plan::parts::parts_before(words, n) as u64;
+    plan[plan_words::KEPT] = kept;
+}
+
+// THE PLAN OF A RESULT by those words.
 pub fn plan_anew(
     formats: &[u8],
     schema: &[u32],
@@ -101,12 +177,22 @@ pub fn plan_anew(
     requires { ⌜ (target < 2 ^ 32) × (n ≤ 32) × (first < 2 ^ 32) × Comes (tables (now lengths) (now places) (now body)) first n (now from) ⌝ }
     ensures { λ _. ⌜ now (plan .exit) ≡ planAnew (now (formats .entry)) (now (schema .entry)) target n (keepsFrom (tables (now (lengths .entry)) (now (places .entry)) (now (body .entry))) first (now (from .entry))) joined kept ⌝ }
 {
-    plan::write_type(formats, schema, target, 1, n, plan);
-    write_nulls(lengths, places, body, first, from, n, plan);
-    write_dictionaries(joined, n, plan);
-    plan[plan_words::KEPT] = kept;
-    plan::write_parts(n, plan);
-    plan[plan_words::PART_COUNT] = plan::parts::part_total(plan) as u64;
+    let mut words = [0u64; NODE_WORDS];
+    words_anew(
+        formats,
+        schema,
+        target,
+        n,
+        lengths,
+        places,
+        body,
+        first,
+        from,
+        joined,
+        &mut words,
+    );
+    *plan = [0u64; plan_words::WORDS];
+    plan_by(&words, n, kept, plan);
 }
 
 // ---- the room
@@ -126,6 +212,34 @@ pub fn room_ground(
         return 14;
     }
     if !plan::parts::parts_hold(plan, tally, parts) {
+        return 13;
+    }
+    0
+}
+
+// The same where the plan is by the words of n nodes.
+pub fn words_ground(
+    words: &[u64; NODE_WORDS],
+    n: usize,
+    tally: &[u64; plan_words::COUNTERS],
+    parts: &[u64],
+    plan: usize,
+    counters: usize,
+    m: usize,
+) -> u8
+    requires { ⌜ n ≤ 32 ⌝ }
+    ensures { λ r. ⌜ ((kept : ℕ) → r ≡ roomGround (planBy (now (words .entry)) n kept) (now (tally .entry)) (now (parts .entry)) plan counters m) ⌝ }
+{
+    if plan != plan_words::WORDS {
+        return 14;
+    }
+    if counters != plan_words::COUNTERS {
+        return 14;
+    }
+    if !plan::placed::parts_placed(parts, plan::parts::parts_before(words, n), m) {
+        return 14;
+    }
+    if !plan::parts::nodes_hold(words, n, tally, parts) {
         return 13;
     }
     0

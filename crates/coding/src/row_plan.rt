@@ -2,12 +2,13 @@
 ghost use mathlib.Core.Path.{_≡_};
 ghost use mathlib.Core.Bool.{true};
 ghost use Prim.Native.Nat.{_≤_};
-ghost use lib.ListN.{length, replicate};
+ghost use lib.ListN.{length};
 ghost use Rattle.schema.specs.formats.Code.{isFixed};
 ghost use Rattle.plan.specs.parts.Parts.{partsHold};
 ghost use Rattle.anew.specs.Anew.{roomGround};
 ghost use Rattle.coding.specs.Counted.{rowCounts};
 ghost use Rattle.coding.specs.Planned.{rowPlan};
+use anew::result_plan;
 use array_data::lent_tables;
 use walk::plan_words;
 
@@ -18,24 +19,12 @@ pub struct Row {
     pub nulls: u64,
 }
 
-// Zeros.
-fn clear(t: &mut [u64])
-    ensures { λ _. ⌜ now (t .exit) ≡ replicate (length (now (t .entry))) 0 ⌝ }
-{
-    let n = t.len();
-    let mut i = 0;
-    while i < n {
-        t[i] = 0;
-        i += 1;
-    }
-}
-
 // The words of the plan; the others are 0.
 pub fn write_words(row: Row, plan: &mut [u64])
     requires { ⌜ (length (now plan) ≡ 872) × (row .nulls ≤ 1) ⌝ }
     ensures { λ _. ⌜ now (plan .exit) ≡ rowPlan (row .code) (row .nullable) (row .nulls) ⌝ }
 {
-    clear(plan);
+    result_plan::clear(plan);
     let k = row.nulls;
     plan[0] = row.code as u64;
     plan[2] = 1;
@@ -52,7 +41,7 @@ pub fn write_counters(m: u64, counters: &mut [u64])
     requires { ⌜ length (now counters) ≡ 96 ⌝ }
     ensures { λ _. ⌜ now (counters .exit) ≡ rowCounts m ⌝ }
 {
-    clear(counters);
+    result_plan::clear(counters);
     counters[0] = m;
 }
 

@@ -128,7 +128,7 @@ pub fn has_part(plan: &[u64], i: usize, b: usize) -> bool
 }
 
 // How many parts the nodes before node i have.
-fn parts_before(plan: &[u64], i: usize) -> usize
+pub fn parts_before(plan: &[u64], i: usize) -> usize
     requires { ⌜ i ≤ 32 ⌝ }
     ensures { λ r. ⌜ r ≡ partsBefore (now (plan .entry)) i ⌝ }
     ensures { λ r. ⌜ r ≤ 96 ⌝ }
@@ -297,11 +297,16 @@ fn node_holds(plan: &[u64], counters: &[u64; plan_words::COUNTERS], parts: &[u64
     validity & first & second
 }
 
-// Whether every part holds its bytes: ground 13 where not.
-pub fn parts_hold(plan: &[u64], counters: &[u64; plan_words::COUNTERS], parts: &[u64]) -> bool
-    ensures { λ r. ⌜ r ≡ partsHold (now (plan .entry)) (now (counters .entry)) (now (parts .entry)) ⌝ }
+// Whether every part of the first n nodes holds its bytes.
+pub fn nodes_hold(
+    plan: &[u64],
+    n: usize,
+    counters: &[u64; plan_words::COUNTERS],
+    parts: &[u64],
+) -> bool
+    requires { ⌜ n ≤ 32 ⌝ }
+    ensures { λ r. ⌜ r ≡ every (λ i. every (λ b. partHolds (now (plan .entry)) (now (counters .entry)) (now (parts .entry)) i b) 3) n ⌝ }
 {
-    let n = node_count(plan);
     let mut i = 0;
     while i < n {
         if !node_holds(plan, counters, parts, i) {
@@ -310,6 +315,13 @@ pub fn parts_hold(plan: &[u64], counters: &[u64; plan_words::COUNTERS], parts: &
         i += 1;
     }
     true
+}
+
+// Whether every part holds its bytes: ground 13 where not.
+pub fn parts_hold(plan: &[u64], counters: &[u64; plan_words::COUNTERS], parts: &[u64]) -> bool
+    ensures { λ r. ⌜ r ≡ partsHold (now (plan .entry)) (now (counters .entry)) (now (parts .entry)) ⌝ }
+{
+    nodes_hold(plan, node_count(plan), counters, parts)
 }
 
 // Whether buffer b of node i has no part, or one that is in the table and lies in the room.

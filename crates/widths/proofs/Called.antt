@@ -13,16 +13,16 @@ use Rattle.array_data.specs.Typed.{tablesFrom}
 use Rattle.array_data.specs.lent_tables.Lent.{tables}
 use Rattle.array_data.specs.type_tree.Lent.{treeOf}
 use Rattle.source_rules.specs.kinds.Rows.{tablesOf}
-use Rattle.walk.specs.Log.{Out, Did}
+use Rattle.walk.specs.Log.{Out, Did, applyIf}
 use Rattle.plan.proofs.Words.{filled-at}
 use Rattle.plan.specs.parts.Parts.{partTotal, partsPlaced, partsHold}
 use Rattle.columns.specs.Grounds.{ceiling, smallBody, columnGround}
 use Rattle.with_capacities.specs.Answer.{Answers}
 use Rattle.anew.specs.Anew.{orElse, joinLengths, roomGround, ahead}
-use Rattle.anew.specs.ResultPlan.{keepsFrom, Comes, planAnew}
+use Rattle.anew.specs.ResultPlan.{keepsFrom, Comes, wordsAnew, planBy}
 use Rattle.anew.proofs.Laws.{or-none, or-zero, or-first}
 use Rattle.anew.proofs.Comes.{comes}
-use Rattle.anew.proofs.PlanWords.{plan-length}
+use Rattle.anew.proofs.ByWords.{same-word, by-same, words-length, plan-by-words}
 use Rattle.anew.specs.result_plan.Answer.{Asks}
 use Rattle.anew.proofs.result_plan.Answered.{tried-room, made-room, before-walk, asks-refused, asks-lengths, asks-done, answers-large, answers-refused, answers-room, answers-made}
 use Rattle.width_walks.specs.target_rules.Target.{endsAt, isTarget, Target}
@@ -30,10 +30,15 @@ use Rattle.width_walks.proofs.target_rules.Rules.{target-is}
 use Rattle.width_walks.specs.Nodes.{treeWalk}
 use Rattle.width_walks.specs.Call.{fromWords, targetGround, planned, walked, asked, convert}
 use Rattle.width_walks.proofs.From.{plan-same}
+use Rattle.widths.proofs.Tried.{tree-same}
 
 -- the counters that a walk leaves, under another name
 pub recount : {s p room room2 c q : List ℕ} {wr : Bool} {o : Out} {g : ℕ} → q ≡ c → Did s p wr o room g c room2 → Did s p wr o room g q room2
 recount e d = rw e d
+
+-- .. and the plan that it goes by
+pub replan : (walk : List ℕ → Out) {s t p room room2 c : List ℕ} {wr : Bool} {g : ℕ} → s ≡ t → Did s p wr (walk s) room g c room2 → Did t p wr (walk t) room g c room2
+replan walk {p = p} {room = room} {room2 = room2} {c = c} {wr = wr} {g = g} e d = subst (λ l. Did l p wr (walk l) room g c room2) e d
 
 -- plan and counters that pass 14 are of a join's lengths
 pub room-lengths : {g : ℕ} (made tally parts : List ℕ) (plan counters room : ℕ) → g ≡ roomGround made tally parts plan counters room → g ≡ 0 → (plan ≡ 872) × (counters ≡ 96)
@@ -68,13 +73,13 @@ from-low formats schema first n i few l =
     let e = filled-at (λ k. k) (λ s k. cond (endsAt formats schema first k) 0 (suc k)) (λ a b q. q) n (replicate 32 0) i l (omega (arith, length-replicate {A = ℕ} 32 0)) in
     omega (arith, e, word-low (endsAt formats schema first i) i n l)
 
--- a plan by words under another name
+-- words under another name
 pub comes-by : {x : Tables} {first n : ℕ} {from words : List ℕ} → from ≡ words → Comes x first n words → Comes x first n from
 comes-by e h = rw e h
 
-pub plan-by : (formats schema : List ℕ) (target n : ℕ) (x : Tables) (first : ℕ) {r from words : List ℕ} → r ≡ planAnew formats schema target n (keepsFrom x first from) true 0 → from ≡ words
-    → r ≡ planAnew formats schema target n (keepsFrom x first words) true 0
-plan-by formats schema target n x first e f = e ∙ ap (λ w. planAnew formats schema target n (keepsFrom x first w) true 0) f
+pub words-by : (formats schema : List ℕ) (target n : ℕ) (x : Tables) (first : ℕ) {r from words : List ℕ} → r ≡ wordsAnew formats schema target n (keepsFrom x first from) true → from ≡ words
+    → r ≡ wordsAnew formats schema target n (keepsFrom x first words) true
+words-by formats schema target n x first e f = e ∙ ap (λ w. wordsAnew formats schema target n (keepsFrom x first w) true) f
 
 module _ (formats schema lengths places buffers body : List ℕ) (first n target tn : ℕ) where
   abbrev x : Tables
@@ -160,12 +165,28 @@ module _ (formats schema lengths places buffers body : List ℕ) (first n target
       pub target-good : isTarget formats schema first n target n ≡ true
       target-good = subst (λ k. isTarget formats schema first n target k ≡ true) (sym (differs .same-size)) is-target
 
-      module _ (draft : List ℕ) (es : draft ≡ planAnew formats schema target n (keepsFrom (tables lengths places body) first words) true 0) where
-        made-is : draft ≡ made
-        made-is = es ∙ plan-same formats schema first n x target small-nodes ∙ ap (planned formats schema x first n target) (differs .same-size)
+      module _ (nodes : List ℕ) (es : nodes ≡ wordsAnew formats schema target n (keepsFrom (tables lengths places body) first words) true) where
+        -- the plan by the words of the nodes
+        abbrev draft : List ℕ
+        draft = planBy nodes n 0
 
-        pub draft-length : length draft ≡ 872
-        draft-length = ap length es ∙ plan-length formats schema target n (keepsFrom (tables lengths places body) first words) true 0 small-nodes
+        made-is : draft ≡ made
+        made-is =
+            ap (λ w. planBy w n 0) es
+            ∙ plan-by-words formats schema target n (keepsFrom (tables lengths places body) first words) true 0 small-nodes
+            ∙ plan-same formats schema first n x target small-nodes
+            ∙ ap (planned formats schema x first n target) (differs .same-size)
+
+        pub nodes-length : length nodes ≡ 256
+        nodes-length = ap length es ∙ words-length formats schema target n (keepsFrom (tables lengths places body) first words) true 0 small-nodes
+
+        -- a walk that only tries reads the words of the nodes alone
+        tried : (parts : List ℕ) {room room2 c : List ℕ} {g : ℕ} → Did nodes parts false (walkBy n nodes) room g c room2 → Did draft parts false (walkBy n draft) room g c room2
+        unfolding applyIf
+        tried parts {room} {room2} {c} {g} d =
+            let e : walkBy n nodes ≡ walkBy n draft = tree-same (treeOf formats schema first n) (treeOf formats schema target n) (tablesFrom x first) nodes draft (λ i l. same-word nodes draft (by-same nodes n 0) i 5 l (omega arith)) small-nodes (replicate 96 0) in
+            let f = subst (λ o. Did nodes parts false o room g c room2) e d in
+            record { answer = f .answer; counters = f .counters; bytes = f .bytes }
 
         module _ (parts : List ℕ) {wr : Bool} {room room2 c : List ℕ} {g : ℕ} (d : Did draft parts wr (walkBy n draft) room g c room2) where
           did : Did made parts wr walk room g c room2
@@ -174,29 +195,30 @@ module _ (formats schema lengths places buffers body : List ℕ) (first n target
           before-is : g ≡ ahead formats schema x first n own made walk
           before-is = before-walk formats schema x first n own made walk (both-none .0) (both-none .1) (did .answer)
 
-          -- ---- the question
+        -- ---- the question
 
+        module _ (parts : List ℕ) {room room2 c : List ℕ} {g : ℕ} (d : Did nodes parts false (walkBy n nodes) room g c room2) where
           module _ (plan counters : List ℕ) where
             pub ask-walk : (g ≡ 0 → ⊥) → Asks (asked formats schema x first n target tn plan counters) g plan counters
-            ask-walk h = asks-refused formats schema x first n own made walk plan counters before-is h
+            ask-walk h = asks-refused formats schema x first n own made walk plan counters (before-is parts (tried parts d)) h
 
             module _ (z : g ≡ 0) where
               pub ask-plan : (length plan ≡ 872 → ⊥) → Asks (asked formats schema x first n target tn plan counters) 14 plan counters
               unfolding joinLengths
-              ask-plan h = asks-lengths formats schema x first n own made walk plan counters (sym before-is ∙ z) (rw (ne-eqb (length plan) 872 h))
+              ask-plan h = asks-lengths formats schema x first n own made walk plan counters (sym (before-is parts (tried parts d)) ∙ z) (rw (ne-eqb (length plan) 872 h))
 
               pub ask-counters : length plan ≡ 872 → (length counters ≡ 96 → ⊥) → Asks (asked formats schema x first n target tn plan counters) 14 plan counters
               unfolding joinLengths
-              ask-counters l h = asks-lengths formats schema x first n own made walk plan counters (sym before-is ∙ z) (rw (eq-eqb (length plan) 872 l, ne-eqb (length counters) 96 h))
+              ask-counters l h = asks-lengths formats schema x first n own made walk plan counters (sym (before-is parts (tried parts d)) ∙ z) (rw (eq-eqb (length plan) 872 l, ne-eqb (length counters) 96 h))
 
               pub ask-done : length plan ≡ 872 → length counters ≡ 96 → {p q : List ℕ} → p ≡ draft → q ≡ c → Asks (asked formats schema x first n target tn plan counters) 0 p q
               unfolding joinLengths
               ask-done l m e f =
-                  asks-done formats schema x first n own made walk plan counters (sym before-is ∙ z) (rw (eq-eqb (length plan) 872 l, eq-eqb (length counters) 96 m)) refl (e ∙ made-is) (f ∙ did .counters)
+                  asks-done formats schema x first n own made walk plan counters (sym (before-is parts (tried parts d)) ∙ z) (rw (eq-eqb (length plan) 872 l, eq-eqb (length counters) 96 m)) refl (e ∙ made-is) (f ∙ did parts (tried parts d) .counters)
 
         -- ---- the call
 
-        module _ (parts plan counters room : List ℕ) (l : length room ≤ ceiling) {room2 c : List ℕ} {g : ℕ} (d : Did draft parts false (walkBy n draft) room g c room2) where
+        module _ (parts plan counters room : List ℕ) (l : length room ≤ ceiling) {room2 c : List ℕ} {g : ℕ} (d : Did nodes parts false (walkBy n nodes) room g c room2) where
           abbrev Answered : ℕ → List ℕ → List ℕ → List ℕ → Type 0
           Answered = Answers (convert formats schema x first n target tn parts plan counters room)
 
@@ -205,22 +227,22 @@ module _ (formats schema lengths places buffers body : List ℕ) (first n target
           small = le-leb (length room) ceiling l
 
           same-room : room2 ≡ room
-          same-room = tried-room draft parts _ room d
+          same-room = tried-room nodes parts _ room d
 
           pub make-walk : (g ≡ 0 → ⊥) → Answered g plan counters room2
-          make-walk h = rw same-room (answers-refused formats schema x first n own made walk parts plan counters room small (before-is parts d) h)
+          make-walk h = rw same-room (answers-refused formats schema x first n own made walk parts plan counters room small (before-is parts (tried parts d)) h)
 
           module _ (z : g ≡ 0) {c2 : List ℕ} (ec : c2 ≡ c) {k : ℕ} (e : k ≡ roomGround draft c2 parts (length plan) (length counters) (length room2)) where
             room-is : k ≡ roomGround made (walk .counters) parts (length plan) (length counters) (length room)
-            room-is = e ∙ rw (same-room, made-is, ec, did parts d .counters)
+            room-is = e ∙ rw (same-room, made-is, ec, did parts (tried parts d) .counters)
 
             pub make-room : (k ≡ 0 → ⊥) → Answered k plan counters room2
-            make-room h = rw same-room (answers-room formats schema x first n own made walk parts plan counters room small (sym (before-is parts d) ∙ z) room-is h)
+            make-room h = rw same-room (answers-room formats schema x first n own made walk parts plan counters room small (sym (before-is parts (tried parts d)) ∙ z) room-is h)
 
             pub make-made : k ≡ 0 → {r : ℕ} {p q b : List ℕ} → p ≡ draft → Did draft parts true (walkBy n draft) room2 r q b → Answered r p q b
             make-made h ep dm =
                 let m = did parts (rw same-room at dm) in
-                answers-made formats schema x first n own made walk parts plan counters room small (sym (before-is parts d) ∙ z) (sym room-is ∙ h) (m .answer ∙ sym (did parts d .answer) ∙ z) (ep ∙ made-is) (m .counters) (made-room made parts walk room m)
+                answers-made formats schema x first n own made walk parts plan counters room small (sym (before-is parts (tried parts d)) ∙ z) (sym room-is ∙ h) (m .answer ∙ sym (did parts (tried parts d) .answer) ∙ z) (ep ∙ made-is) (m .counters) (made-room made parts walk room m)
 
   -- a room above the ceiling
   pub make-large : (parts plan counters room : List ℕ) → ceiling < length room → Answers (convert formats schema x first n target tn parts plan counters room) 9 plan counters room

@@ -1,4 +1,5 @@
 -- What the functions of the converter come to, and the theorems on it.
+pub mod Tried
 pub mod Called
 pub mod Theorems
 pub mod Again

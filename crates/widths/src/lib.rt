@@ -11,12 +11,13 @@ ghost use Rattle.source_rules.specs.kinds.Rows.{tablesOf};
 ghost use Rattle.columns.specs.Grounds.{columnGround};
 ghost use Rattle.walk.specs.Log.{Did};
 ghost use Rattle.anew.specs.Anew.{orElse};
-ghost use Rattle.anew.specs.ResultPlan.{keepsFrom, Comes, planAnew};
+ghost use Rattle.anew.specs.ResultPlan.{keepsFrom, Comes, wordsAnew, planBy};
 ghost use Rattle.with_capacities.specs.Answer.{Answers};
 ghost use Rattle.anew.specs.result_plan.Answer.{Asks};
 ghost use Rattle.width_walks.specs.target_rules.Target.{isTarget};
 ghost use Rattle.width_walks.specs.Nodes.{treeWalk};
 ghost use Rattle.width_walks.specs.Call.{fromWords, targetGround, asked, convert};
+use anew::result_plan;
 use walk::plan_words;
 
 // The ground of the column and of the target: 9, 10, 12, and 10 where the target differs in more than widths.
@@ -63,8 +64,8 @@ fn from_words(formats: &[u8], schema: &[u32], first: u32, n: u32) -> [u64; 32]
     from
 }
 
-// The plan of the result, of n nodes from node `target` on.
-fn planned(
+// The words of the result's nodes, n of them from node `target` on.
+fn words_of(
     formats: &[u8],
     schema: &[u32],
     lengths: &[u64],
@@ -73,13 +74,13 @@ fn planned(
     first: u32,
     n: u32,
     target: u32,
-    draft: &mut [u64; plan_words::WORDS],
+    words: &mut [u64; result_plan::NODE_WORDS],
 )
     requires { ⌜ (n ≤ 32) × Comes (tables (now lengths) (now places) (now body)) first n (fromWords (now formats) (now schema) first n (replicate 32 0)) ⌝ }
-    ensures { λ _. ⌜ now (draft .exit) ≡ planAnew (now (formats .entry)) (now (schema .entry)) target n (keepsFrom (tables (now (lengths .entry)) (now (places .entry)) (now (body .entry))) first (fromWords (now (formats .entry)) (now (schema .entry)) first n (replicate 32 0))) true 0 ⌝ }
+    ensures { λ _. ⌜ now (words .exit) ≡ wordsAnew (now (formats .entry)) (now (schema .entry)) target n (keepsFrom (tables (now (lengths .entry)) (now (places .entry)) (now (body .entry))) first (fromWords (now (formats .entry)) (now (schema .entry)) first n (replicate 32 0))) true ⌝ }
 {
     let from = from_words(formats, schema, first, n);
-    anew::result_plan::plan_anew(
+    result_plan::words_anew(
         formats,
         schema,
         target as usize,
@@ -90,8 +91,7 @@ fn planned(
         first as usize,
         &from,
         true,
-        0,
-        draft,
+        words,
     );
 }
 
@@ -128,8 +128,8 @@ pub fn plan_convert(
     if g != 0 {
         return g;
     }
-    let mut draft = [0u64; plan_words::WORDS];
-    planned(
+    let mut words = [0u64; result_plan::NODE_WORDS];
+    words_of(
         formats,
         schema,
         lengths,
@@ -138,7 +138,7 @@ pub fn plan_convert(
         first,
         n,
         target,
-        &mut draft,
+        &mut words,
     );
     let none = [0u64; 0];
     let mut nothing = [0u8; 0];
@@ -152,7 +152,7 @@ pub fn plan_convert(
         first,
         n,
         target,
-        &draft,
+        &words,
         &none,
         &mut tally,
         &mut nothing,
@@ -168,11 +168,12 @@ pub fn plan_convert(
         return 14;
     }
     let made = with_capacities::copied(tally);
-    anew::result_plan::keep_result(plan, counters, &draft, &made);
+    result_plan::plan_by(&words, n as usize, 0, plan);
+    with_capacities::store(counters, &made, plan_words::COUNTERS);
     0
 }
 
-// The walk made, and plan and counters left with the caller.
+// The plan by the words of its nodes left with the caller, the walk made by it, and its counters left.
 fn make(
     formats: &[u8],
     schema: &[u32],
@@ -182,17 +183,18 @@ fn make(
     first: u32,
     n: u32,
     target: u32,
-    draft: &[u64],
+    words: &[u64; result_plan::NODE_WORDS],
     parts: &[u64],
     plan: &mut [u64],
     counters: &mut [u64],
     room: &mut [u8],
 ) -> u8
-    requires { ⌜ (length (now plan) ≡ 872) × (length (now counters) ≡ 96) × (length (now draft) ≡ 872) ⌝ }
+    requires { ⌜ (length (now plan) ≡ 872) × (length (now counters) ≡ 96) × (n ≤ 32) ⌝ }
     requires { ⌜ ((buffers : List ℕ) × (columnGround (now formats) (now schema) (tablesOf (now lengths) (now places) buffers (now body)) first n ≡ 0)) ⌝ }
     requires { ⌜ isTarget (now formats) (now schema) first n target n ≡ true ⌝ }
-    ensures { λ r. ⌜ (now (plan .exit) ≡ now (draft .entry)) × ((buffers : List ℕ) → Did (now (draft .entry)) (now (parts .entry)) true (treeWalk (treeOf (now (formats .entry)) (now (schema .entry)) first n) (treeOf (now (formats .entry)) (now (schema .entry)) target n) (tablesFrom (tablesOf (now (lengths .entry)) (now (places .entry)) buffers (now (body .entry))) first) (now (draft .entry)) (replicate 96 0)) (now (room .entry)) r (now (counters .exit)) (now (room .exit))) ⌝ }
+    ensures { λ r. ⌜ (now (plan .exit) ≡ planBy (now (words .entry)) n 0) × ((buffers : List ℕ) → Did (planBy (now (words .entry)) n 0) (now (parts .entry)) true (treeWalk (treeOf (now (formats .entry)) (now (schema .entry)) first n) (treeOf (now (formats .entry)) (now (schema .entry)) target n) (tablesFrom (tablesOf (now (lengths .entry)) (now (places .entry)) buffers (now (body .entry))) first) (planBy (now (words .entry)) n 0) (replicate 96 0)) (now (room .entry)) r (now (counters .exit)) (now (room .exit))) ⌝ }
 {
+    result_plan::plan_by(words, n as usize, 0, plan);
     let mut tally = [0u64; plan_words::COUNTERS];
     let g = width_loop::convert_walk(
         formats,
@@ -203,14 +205,14 @@ fn make(
         first,
         n,
         target,
-        draft,
+        plan,
         parts,
         &mut tally,
         room,
         true,
     );
     let made = with_capacities::copied(tally);
-    anew::result_plan::keep_result(plan, counters, draft, &made);
+    with_capacities::store(counters, &made, plan_words::COUNTERS);
     g
 }
 
@@ -251,8 +253,8 @@ pub fn convert(
     if g != 0 {
         return g;
     }
-    let mut draft = [0u64; plan_words::WORDS];
-    planned(
+    let mut words = [0u64; result_plan::NODE_WORDS];
+    words_of(
         formats,
         schema,
         lengths,
@@ -261,7 +263,7 @@ pub fn convert(
         first,
         n,
         target,
-        &mut draft,
+        &mut words,
     );
     let mut tried = [0u64; plan_words::COUNTERS];
     let g = width_loop::convert_walk(
@@ -273,7 +275,7 @@ pub fn convert(
         first,
         n,
         target,
-        &draft,
+        &words,
         parts,
         &mut tried,
         room,
@@ -283,8 +285,9 @@ pub fn convert(
         return g;
     }
     let tally = with_capacities::copied(tried);
-    let g = anew::result_plan::room_ground(
-        &draft,
+    let g = result_plan::words_ground(
+        &words,
+        n as usize,
         &tally,
         parts,
         plan.len(),
@@ -303,7 +306,7 @@ pub fn convert(
         first,
         n,
         target,
-        &draft,
+        &words,
         parts,
         plan,
         counters,

@@ -1,21 +1,29 @@
 -- `widths::make` meets its contract. Assumes nothing.
 use mathlib.Core.Path.{_∙_}
-use Rattle.widths.proofs.Called.{recount}
+use lib.ListN.{replicate}
+use Rattle.array_data.specs.Typed.{tablesFrom}
+use Rattle.array_data.specs.type_tree.Lent.{treeOf}
+use Rattle.source_rules.specs.kinds.Rows.{tablesOf}
+use Rattle.width_walks.specs.Nodes.{treeWalk}
+use Rattle.widths.proofs.Called.{recount, replan}
 use borrow.Author.Needs.{needs}
 use Rattle.widths.proofs.make.Statement.{statement}
 use Rattle.widths.proofs.make.Tie as tie
 
+plan-by-requires : tie.Need-plan-by-requires
+plan-by-requires c κs = (c .before .before .before .before .before .before .before .before .before .before .pre .0 .2, c .before .before .before .before .before .before .before .before .before .before .pre .0 .0)
+
 convert-walk-requires : tie.Need-convert-walk-requires
-convert-walk-requires c κs = (c .before .before .before .before .before .before .before .before .before .before .before .before .pre .1 .0, c .before .before .before .before .before .before .before .before .before .before .before .before .pre .1 .1)
+convert-walk-requires c κs = (c .before .before .before .before .before .before .before .before .before .before .before .before .before .before .before .before .pre .1 .0, c .before .before .before .before .before .before .before .before .before .before .before .before .before .before .before .before .pre .1 .1)
 
 copied-requires : tie.Need-copied-requires
 copied-requires c κs = search needs
 
-slice-aggregate-keep-result : tie.Need-slice-aggregate-keep-result
-slice-aggregate-keep-result c = search needs
+slice-aggregate-store : tie.Need-slice-aggregate-store
+slice-aggregate-store c = search needs
 
-keep-result-requires : tie.Need-keep-result-requires
-keep-result-requires c κs = search needs
+store-requires : tie.Need-store-requires
+store-requires c κs = search needs
 
 same-length : tie.Need-same-length
 same-length c = search needs
@@ -27,7 +35,9 @@ same-length-3 : tie.Need-same-length-3
 same-length-3 c = search needs
 
 returns : tie.Need-returns
-returns c = (c .before .before .before .before .keep-result .ensures .0, λ buffers. recount (c .before .before .before .before .keep-result .ensures .1 ∙ c .before .before .before .before .before .before .before .before .copied .ensures) (c .before .before .before .before .before .before .before .before .before .before .before .convert-walk .ensures buffers))
+returns c =
+    let z = c .before .before .before .before .before .before .before .before .before .before .before .before .before .before .before .before .before .before .before .before .before .before .before .before .before .args in
+    (c .before .before .before .before .before .before .before .before .before .before .before .before .before .before .plan-by .ensures, λ buffers. recount (c .before .before .store .ensures ∙ c .before .before .before .before .before .copied .ensures) (replan (λ draft. treeWalk (treeOf (z .formats .now) (z .schema .now) (z .first) (z .n)) (treeOf (z .formats .now) (z .schema .now) (z .target) (z .n)) (tablesFrom (tablesOf (z .lengths .now) (z .places .now) buffers (z .body .now)) (z .first)) draft (replicate 96 0)) (c .before .before .before .before .before .before .before .before .before .before .before .before .before .before .plan-by .ensures) (c .before .before .before .before .before .before .before .before .convert-walk .ensures buffers)))
 
 pub make-spec : {M : Type 1} → statement M
-make-spec = tie.close (tie.spec convert-walk-requires copied-requires slice-aggregate-keep-result keep-result-requires same-length same-length-2 same-length-3 returns)
+make-spec = tie.close (tie.spec plan-by-requires convert-walk-requires copied-requires slice-aggregate-store store-requires same-length same-length-2 same-length-3 returns)

@@ -1,7 +1,7 @@
 -- `widths::plan_convert` meets its contract. Assumes nothing.
 use mathlib.Core.Path.{sym, _∙_}
 use mathlib.Core.List.{[]}
-use Rattle.widths.proofs.Called.{ask-refused, small-nodes, comes-from, column-good, target-good, ask-walk, ask-plan, ask-counters, ask-done, draft-length}
+use Rattle.widths.proofs.Called.{ask-refused, small-nodes, comes-from, column-good, target-good, ask-walk, ask-plan, ask-counters, ask-done, nodes-length}
 use borrow.Author.Needs.{needs}
 use Rattle.widths.proofs.plan_convert.Statement.{statement}
 use Rattle.widths.proofs.plan_convert.Tie as tie
@@ -12,11 +12,10 @@ ground-of-requires c κs = search needs
 returns : tie.Need-returns
 returns c =
     let z = c .before .before .before .before .before .before .before .before .before .before .args in
-    let e = c .before .ground-of .ensures in
-    ask-refused (z .formats .now) (z .schema .now) (z .lengths .now) (z .places .now) (z .buffers .now) (z .body .now) (z .first) (z .n) (z .target) (z .target-n) e (c .if1 .taken) (z .plan .now) (z .counters .now)
+    ask-refused (z .formats .now) (z .schema .now) (z .lengths .now) (z .places .now) (z .buffers .now) (z .body .now) (z .first) (z .n) (z .target) (z .target-n) (c .before .ground-of .ensures) (c .if1 .taken) (z .plan .now) (z .counters .now)
 
-planned-requires : tie.Need-planned-requires
-planned-requires c κs =
+words-of-requires : tie.Need-words-of-requires
+words-of-requires c κs =
     let z = c .before .before .before .before .before .before .before .before .before .before .before .args in
     let e = c .before .before .ground-of .ensures in
     let f1 = c .before .if1 .left in
@@ -25,10 +24,7 @@ planned-requires c κs =
 slice-aggregate-convert-walk : tie.Need-slice-aggregate-convert-walk
 slice-aggregate-convert-walk c =
     let z = c .before .before .before .before .before .before .before .before .before .before .before .before .before .args in
-    let e = c .before .before .before .before .ground-of .ensures in
-    let f = c .before .before .before .if1 .left in
-    let p = c .before .planned .ensures in
-    sym (draft-length (z .formats .now) (z .schema .now) (z .lengths .now) (z .places .now) (z .buffers .now) (z .body .now) (z .first) (z .n) (z .target) (z .target-n) e f _ p)
+    sym (nodes-length (z .formats .now) (z .schema .now) (z .lengths .now) (z .places .now) (z .buffers .now) (z .body .now) (z .first) (z .n) (z .target) (z .target-n) (c .before .before .before .before .ground-of .ensures) (c .before .before .before .if1 .left) _ (c .before .words-of .ensures))
 
 slice-aggregate-convert-walk-2 : tie.Need-slice-aggregate-convert-walk-2
 slice-aggregate-convert-walk-2 c = search needs
@@ -46,54 +42,34 @@ convert-walk-requires c κs =
 returns-2 : tie.Need-returns-2
 returns-2 c =
     let z = c .before .before .before .before .before .before .before .before .before .before .before .before .before .before .before .before .before .before .before .args in
-    let e = c .before .before .before .before .before .before .before .before .before .before .ground-of .ensures in
-    let f1 = c .before .before .before .before .before .before .before .before .before .if1 .left in
-    let p = c .before .before .before .before .before .before .before .planned .ensures in
     let w = c .before .before .convert-walk .ensures (z .buffers .now) in
-    ask-walk (z .formats .now) (z .schema .now) (z .lengths .now) (z .places .now) (z .buffers .now) (z .body .now) (z .first) (z .n) (z .target) (z .target-n) e f1 _ p [] w (z .plan .now) (z .counters .now) (c .if2 .taken)
+    ask-walk (z .formats .now) (z .schema .now) (z .lengths .now) (z .places .now) (z .buffers .now) (z .body .now) (z .first) (z .n) (z .target) (z .target-n) (c .before .before .before .before .before .before .before .before .before .before .ground-of .ensures) (c .before .before .before .before .before .before .before .before .before .if1 .left) _ (c .before .before .before .before .before .before .before .words-of .ensures) [] w (z .plan .now) (z .counters .now) (c .if2 .taken)
 
 returns-3 : tie.Need-returns-3
 returns-3 c =
     let z = c .before .before .before .before .before .before .before .before .before .before .before .before .before .before .before .before .before .before .before .before .args in
-    let e = c .before .before .before .before .before .before .before .before .before .before .before .ground-of .ensures in
-    let f1 = c .before .before .before .before .before .before .before .before .before .before .if1 .left in
-    let f2 = c .before .if2 .left in
-    let p = c .before .before .before .before .before .before .before .before .planned .ensures in
     let w = c .before .before .before .convert-walk .ensures (z .buffers .now) in
-    ask-plan (z .formats .now) (z .schema .now) (z .lengths .now) (z .places .now) (z .buffers .now) (z .body .now) (z .first) (z .n) (z .target) (z .target-n) e f1 _ p [] w (z .plan .now) (z .counters .now) f2 (c .if3 .taken)
+    ask-plan (z .formats .now) (z .schema .now) (z .lengths .now) (z .places .now) (z .buffers .now) (z .body .now) (z .first) (z .n) (z .target) (z .target-n) (c .before .before .before .before .before .before .before .before .before .before .before .ground-of .ensures) (c .before .before .before .before .before .before .before .before .before .before .if1 .left) _ (c .before .before .before .before .before .before .before .before .words-of .ensures) [] w (z .plan .now) (z .counters .now) (c .before .if2 .left) (c .if3 .taken)
 
 returns-4 : tie.Need-returns-4
 returns-4 c =
     let z = c .before .before .before .before .before .before .before .before .before .before .before .before .before .before .before .before .before .before .before .before .before .args in
-    let e = c .before .before .before .before .before .before .before .before .before .before .before .before .ground-of .ensures in
-    let f1 = c .before .before .before .before .before .before .before .before .before .before .before .if1 .left in
-    let f2 = c .before .before .if2 .left in
-    let f3 = c .before .if3 .left in
-    let p = c .before .before .before .before .before .before .before .before .before .planned .ensures in
     let w = c .before .before .before .before .convert-walk .ensures (z .buffers .now) in
-    ask-counters (z .formats .now) (z .schema .now) (z .lengths .now) (z .places .now) (z .buffers .now) (z .body .now) (z .first) (z .n) (z .target) (z .target-n) e f1 _ p [] w (z .plan .now) (z .counters .now) f2 f3 (c .if4 .taken)
+    ask-counters (z .formats .now) (z .schema .now) (z .lengths .now) (z .places .now) (z .buffers .now) (z .body .now) (z .first) (z .n) (z .target) (z .target-n) (c .before .before .before .before .before .before .before .before .before .before .before .before .ground-of .ensures) (c .before .before .before .before .before .before .before .before .before .before .before .if1 .left) _ (c .before .before .before .before .before .before .before .before .before .words-of .ensures) [] w (z .plan .now) (z .counters .now) (c .before .before .if2 .left) (c .before .if3 .left) (c .if4 .taken)
 
 copied-requires : tie.Need-copied-requires
 copied-requires c κs = search needs
 
-slice-aggregate-keep-result : tie.Need-slice-aggregate-keep-result
-slice-aggregate-keep-result c =
-    let z = c .before .before .before .before .before .before .before .before .before .before .before .before .before .before .before .before .before .before .before .before .before .before .before .before .before .args in
-    let e = c .before .before .before .before .before .before .before .before .before .before .before .before .before .before .before .before .ground-of .ensures in
-    let f = c .before .before .before .before .before .before .before .before .before .before .before .before .before .before .before .if1 .left in
-    let p = c .before .before .before .before .before .before .before .before .before .before .before .before .before .planned .ensures in
-    sym (draft-length (z .formats .now) (z .schema .now) (z .lengths .now) (z .places .now) (z .buffers .now) (z .body .now) (z .first) (z .n) (z .target) (z .target-n) e f _ p)
+plan-by-requires : tie.Need-plan-by-requires
+plan-by-requires c κs =
+    let z = c .before .before .before .before .before .before .before .before .before .before .before .before .before .before .before .before .before .before .before .before .before .before .before .before .args in
+    (small-nodes (z .formats .now) (z .schema .now) (z .lengths .now) (z .places .now) (z .buffers .now) (z .body .now) (z .first) (z .n) (z .target) (z .target-n) (c .before .before .before .before .before .before .before .before .before .before .before .before .before .before .before .ground-of .ensures) (c .before .before .before .before .before .before .before .before .before .before .before .before .before .before .if1 .left), c .before .before .before .before .if3 .left)
 
-slice-aggregate-keep-result-2 : tie.Need-slice-aggregate-keep-result-2
-slice-aggregate-keep-result-2 c = search needs
+slice-aggregate-store : tie.Need-slice-aggregate-store
+slice-aggregate-store c = search needs
 
-keep-result-requires : tie.Need-keep-result-requires
-keep-result-requires c κs =
-    let z = c .before .before .before .before .before .before .before .before .before .before .before .before .before .before .before .before .before .before .before .before .before .before .before .before .before .before .args in
-    let e = c .before .before .before .before .before .before .before .before .before .before .before .before .before .before .before .before .before .ground-of .ensures in
-    let f = c .before .before .before .before .before .before .before .before .before .before .before .before .before .before .before .before .if1 .left in
-    let p = c .before .before .before .before .before .before .before .before .before .before .before .before .before .before .planned .ensures in
-    (c .before .before .before .before .before .before .if3 .left, c .before .before .before .before .before .if4 .left, draft-length (z .formats .now) (z .schema .now) (z .lengths .now) (z .places .now) (z .buffers .now) (z .body .now) (z .first) (z .n) (z .target) (z .target-n) e f _ p, search needs)
+store-requires : tie.Need-store-requires
+store-requires c κs = (c .before .before .before .before .before .before .before .before .if4 .left, search needs)
 
 same-length : tie.Need-same-length
 same-length c = search needs
@@ -103,15 +79,9 @@ same-length-2 c = search needs
 
 returns-5 : tie.Need-returns-5
 returns-5 c =
-    let z = c .before .before .before .before .before .before .before .before .before .before .before .before .before .before .before .before .before .before .before .before .before .before .before .before .before .before .before .before .before .before .before .args in
-    let e = c .before .before .before .before .before .before .before .before .before .before .before .before .before .before .before .before .before .before .before .before .before .before .ground-of .ensures in
-    let f1 = c .before .before .before .before .before .before .before .before .before .before .before .before .before .before .before .before .before .before .before .before .before .if1 .left in
-    let f2 = c .before .before .before .before .before .before .before .before .before .before .before .before .if2 .left in
-    let f3 = c .before .before .before .before .before .before .before .before .before .before .before .if3 .left in
-    let f4 = c .before .before .before .before .before .before .before .before .before .before .if4 .left in
-    let p = c .before .before .before .before .before .before .before .before .before .before .before .before .before .before .before .before .before .before .before .planned .ensures in
-    let w = c .before .before .before .before .before .before .before .before .before .before .before .before .before .before .convert-walk .ensures (z .buffers .now) in
-    ask-done (z .formats .now) (z .schema .now) (z .lengths .now) (z .places .now) (z .buffers .now) (z .body .now) (z .first) (z .n) (z .target) (z .target-n) e f1 _ p [] w (z .plan .now) (z .counters .now) f2 f3 f4 (c .before .before .before .before .keep-result .ensures .0) (c .before .before .before .before .keep-result .ensures .1 ∙ c .before .before .before .before .before .before .before .before .before .copied .ensures)
+    let z = c .before .before .before .before .before .before .before .before .before .before .before .before .before .before .before .before .before .before .before .before .before .before .before .before .before .before .before .before .before .before .before .before .args in
+    let w = c .before .before .before .before .before .before .before .before .before .before .before .before .before .before .before .convert-walk .ensures (z .buffers .now) in
+    ask-done (z .formats .now) (z .schema .now) (z .lengths .now) (z .places .now) (z .buffers .now) (z .body .now) (z .first) (z .n) (z .target) (z .target-n) (c .before .before .before .before .before .before .before .before .before .before .before .before .before .before .before .before .before .before .before .before .before .before .before .ground-of .ensures) (c .before .before .before .before .before .before .before .before .before .before .before .before .before .before .before .before .before .before .before .before .before .before .if1 .left) _ (c .before .before .before .before .before .before .before .before .before .before .before .before .before .before .before .before .before .before .before .before .words-of .ensures) [] w (z .plan .now) (z .counters .now) (c .before .before .before .before .before .before .before .before .before .before .before .before .before .if2 .left) (c .before .before .before .before .before .before .before .before .before .before .before .before .if3 .left) (c .before .before .before .before .before .before .before .before .before .before .before .if4 .left) (c .before .before .before .before .before .before .before .plan-by .ensures) (c .before .before .store .ensures ∙ c .before .before .before .before .before .before .before .before .before .before .copied .ensures)
 
 pub plan-convert-spec : {M : Type 1} → statement M
-plan-convert-spec = tie.close (tie.spec ground-of-requires returns planned-requires slice-aggregate-convert-walk slice-aggregate-convert-walk-2 slice-aggregate-convert-walk-3 convert-walk-requires returns-2 returns-3 returns-4 copied-requires slice-aggregate-keep-result slice-aggregate-keep-result-2 keep-result-requires same-length same-length-2 returns-5)
+plan-convert-spec = tie.close (tie.spec ground-of-requires returns words-of-requires slice-aggregate-convert-walk slice-aggregate-convert-walk-2 slice-aggregate-convert-walk-3 convert-walk-requires returns-2 returns-3 returns-4 copied-requires plan-by-requires slice-aggregate-store store-requires same-length same-length-2 returns-5)

@@ -12,17 +12,17 @@ dictionary-of-requires c κs = search needs
 returns : tie.Need-returns
 returns c =
     let z = c .before .before .before .args in
-    dictionary-none (z .joined) (z .plan .now) (z .i) (c .before .dictionary-of .ensures) (c .if1 .taken)
+    dictionary-none (z .joined) (z .words .now) (z .i) (c .before .dictionary-of .ensures) (c .if1 .taken)
 
 returns-2 : tie.Need-returns-2
 returns-2 c =
     let z = c .before .before .before .before .args in
-    sym (ap flag (c .if2 .taken)) ∙ dictionary-by (z .joined) (z .plan .now) (z .i) (c .before .before .dictionary-of .ensures) (c .before .if1 .left)
+    sym (ap flag (c .if2 .taken)) ∙ dictionary-by (z .joined) (z .words .now) (z .i) (c .before .before .dictionary-of .ensures) (c .before .if1 .left)
 
 returns-3 : tie.Need-returns-3
 returns-3 c =
     let z = c .before .before .before .before .args in
-    sym (ap flag (c .if2 .left)) ∙ dictionary-by (z .joined) (z .plan .now) (z .i) (c .before .before .dictionary-of .ensures) (c .before .if1 .left)
+    sym (ap flag (c .if2 .left)) ∙ dictionary-by (z .joined) (z .words .now) (z .i) (c .before .before .dictionary-of .ensures) (c .before .if1 .left)
 
 pub dictionary-word-spec : {M : Type 1} → statement M
 dictionary-word-spec = tie.close (tie.spec dictionary-of-requires returns returns-2 returns-3)

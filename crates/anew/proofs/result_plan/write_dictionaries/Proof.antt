@@ -9,30 +9,30 @@ use Rattle.anew.proofs.result_plan.write_dictionaries.Statement.{statem
 use Rattle.anew.proofs.result_plan.write_dictionaries.Tie as tie
 
 abbrev Inv-loop : tie.InvT-loop
-Inv-loop joined n plan₀ i₀ plan i = (i ≤ n) × (plan ≡ filled (λ k. 8 * k + 7) (dictionaryWord joined) i plan₀)
+Inv-loop joined n words₀ i₀ words i = (i ≤ n) × (words ≡ filled (λ k. 8 * k + 7) (dictionaryWord joined) i words₀)
 
 abbrev μ-loop : tie.MeasureT-loop
-μ-loop joined n plan₀ i₀ plan i = n - i
+μ-loop joined n words₀ i₀ words i = n - i
 
 loop-holds : tie.Need-loop-holds Inv-loop μ-loop
 loop-holds c =
     let z = c .args in
-    (omega arith, filled-none (λ k. 8 * k + 7) (dictionaryWord (z .joined)) (z .plan .now))
+    (omega arith, filled-none (λ k. 8 * k + 7) (dictionaryWord (z .joined)) (z .words .now))
 
 dictionary-word-requires : tie.Need-dictionary-word-requires Inv-loop μ-loop
 dictionary-word-requires c κs = omega arith
 
-mul-plan : tie.Need-mul-plan Inv-loop μ-loop
-mul-plan c = omega arith
+mul-words : tie.Need-mul-words Inv-loop μ-loop
+mul-words c = omega arith
 
-add-plan : tie.Need-add-plan Inv-loop μ-loop
-add-plan c = omega arith
+add-words : tie.Need-add-words Inv-loop μ-loop
+add-words c = omega arith
 
-mul-plan-2 : tie.Need-mul-plan-2 Inv-loop μ-loop
-mul-plan-2 c = omega arith
+mul-words-2 : tie.Need-mul-words-2 Inv-loop μ-loop
+mul-words-2 c = omega arith
 
-element-write-plan : tie.Need-element-write-plan Inv-loop μ-loop
-element-write-plan c = omega arith
+element-write-words : tie.Need-element-write-words Inv-loop μ-loop
+element-write-words c = omega arith
 
 add-i : tie.Need-add-i Inv-loop μ-loop
 add-i c = omega arith
@@ -44,14 +44,14 @@ loop-again : tie.Need-loop-again Inv-loop μ-loop
 loop-again c =
     let z = c .before .before .before .before .args in
     let l = c .before .before .before .loop in
-    (omega arith, filled-more (λ k. 8 * k + 7) (dictionaryWord (z .joined)) (l .i) (z .plan .now) (l .plan) (l .inv .1) (c .dictionary-word .ensures))
+    (omega arith, filled-more (λ k. 8 * k + 7) (dictionaryWord (z .joined)) (l .i) (z .words .now) (l .words) (l .inv .1) (c .dictionary-word .ensures))
 
 returns : tie.Need-returns Inv-loop μ-loop
 unfolding withDictionaries
 returns c =
     let z = c .before .before .args in
     let l = c .before .loop in
-    filled-all (λ k. 8 * k + 7) (dictionaryWord (z .joined)) (l .i) (z .n) (z .plan .now) (l .plan) (omega arith) (l .inv .1)
+    filled-all (λ k. 8 * k + 7) (dictionaryWord (z .joined)) (l .i) (z .n) (z .words .now) (l .words) (omega arith) (l .inv .1)
 
 pub write-dictionaries-spec : {M : Type 1} → statement M
-write-dictionaries-spec = tie.close (tie.spec Inv-loop μ-loop loop-holds dictionary-word-requires mul-plan add-plan mul-plan-2 element-write-plan add-i loop-less loop-again returns)
+write-dictionaries-spec = tie.close (tie.spec Inv-loop μ-loop loop-holds dictionary-word-requires mul-words add-words mul-words-2 element-write-words add-i loop-less loop-again returns)

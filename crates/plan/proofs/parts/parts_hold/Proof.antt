@@ -1,59 +1,22 @@
--- `parts::parts_hold` meets its contract. The invariant: the parts of the nodes below i hold. Assumes nothing.
-use Prim.Native.Nat.{_-_, _≤_}
-use mathlib.Core.Path.{_≡_, refl, sym}
-use mathlib.Core.Bool.{true}
-use native.Mathlib.Omega.{arith}
+-- `parts::parts_hold` meets its contract. Assumes nothing.
+use mathlib.Core.Path.{ap, _∙_}
 use Rattle.columnar.specs.Test.{every}
-use Rattle.columnar.proofs.Test.{every-false}
-use Rattle.array_data.proofs.lent_tables.Laws.{no, yes}
-use Rattle.plan.specs.parts.Parts.{nodesOf, partHolds, partsHold}
-use Rattle.plan.proofs.parts.Laws.{every-one, every-now}
+use Rattle.plan.specs.parts.Parts.{partHolds, partsHold}
+use borrow.Author.Needs.{needs}
 use Rattle.plan.proofs.parts.parts_hold.Statement.{statement}
 use Rattle.plan.proofs.parts.parts_hold.Tie as tie
 
-abbrev Inv-loop : tie.InvT-loop
-Inv-loop plan counters parts n i₀ i = (i ≤ n) × (every (λ k. every (λ b. partHolds plan counters parts k b) 3) i ≡ true)
+node-count-requires : tie.Need-node-count-requires
+node-count-requires c κs = search needs
 
-abbrev μ-loop : tie.MeasureT-loop
-μ-loop plan counters parts n i₀ i = n - i
+nodes-hold-requires : tie.Need-nodes-hold-requires
+nodes-hold-requires c κs = search needs
 
-node-count-requires : tie.Need-node-count-requires Inv-loop μ-loop
-node-count-requires c κs = omega arith
-
-loop-holds : tie.Need-loop-holds Inv-loop μ-loop
-loop-holds c = (omega arith, refl)
-
-node-holds-requires : tie.Need-node-holds-requires Inv-loop μ-loop
-node-holds-requires c κs = omega arith
-
-returns : tie.Need-returns Inv-loop μ-loop
+returns : tie.Need-returns
 unfolding partsHold
-returns c = sym (every-false (λ k. every (λ b. partHolds (c .before .before .before .before .before .before .before .args .plan .now) (c .before .before .before .before .before .before .before .args .counters .now) (c .before .before .before .before .before .before .before .args .parts .now) k b) 3) (nodesOf (c .before .before .before .before .before .before .before .args .plan .now)) (c .before .before .before .loop .i) (omega (arith, c .before .before .before .before .node-count .ensures .0)) (no (c .before .node-holds .ensures) (c .if1 .taken)))
-
-add-i : tie.Need-add-i Inv-loop μ-loop
-add-i c = omega arith
-
-loop-less : tie.Need-loop-less Inv-loop μ-loop
-loop-less c = omega arith
-
-loop-again : tie.Need-loop-again Inv-loop μ-loop
-loop-again c = (omega arith, every-one (λ k. every (λ b. partHolds (c .before .before .before .before .before .before .before .args .plan .now) (c .before .before .before .before .before .before .before .args .counters .now) (c .before .before .before .before .before .before .before .args .parts .now) k b) 3) (c .before .before .before .loop .i) (c .before .before .before .loop .inv .1) (yes (c .before .node-holds .ensures) (c .if1 .left)))
-
-returns-2 : tie.Need-returns-2 Inv-loop μ-loop
-unfolding partsHold
-returns-2 c = sym (every-now (λ k. every (λ b. partHolds (c .before .before .before .before .before .args .plan .now) (c .before .before .before .before .before .args .counters .now) (c .before .before .before .before .before .args .parts .now) k b) 3) (nodesOf (c .before .before .before .before .before .args .plan .now)) (c .before .loop .i) (omega (arith, c .before .before .node-count .ensures .0)) (omega (arith, c .before .before .node-count .ensures .0)) (c .before .loop .inv .1))
+returns c =
+    let z = c .before .before .before .before .args in
+    c .nodes-hold .ensures ∙ ap (every (λ i. every (λ b. partHolds (z .plan .now) (z .counters .now) (z .parts .now) i b) 3)) (c .before .node-count .ensures .0)
 
 pub parts-hold-spec : {M : Type 1} → statement M
-parts-hold-spec =
-    tie.close
-    (tie.spec
-    Inv-loop
-    μ-loop
-    node-count-requires
-    loop-holds
-    node-holds-requires
-    returns
-    add-i
-    loop-less
-    loop-again
-    returns-2)
+parts-hold-spec = tie.close (tie.spec node-count-requires nodes-hold-requires returns)

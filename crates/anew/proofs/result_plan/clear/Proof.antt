@@ -1,11 +1,11 @@
--- `coding::row_plan::clear` meets its contract. The invariant: the first i numbers are 0. Assumes nothing.
+-- `result_plan::clear` meets its contract. The invariant: the first i numbers are 0. Assumes nothing.
 use mathlib.Core.Path.{sym}
 use Prim.Native.Nat.{_-_, _≤_}
 use native.Mathlib.Omega.{arith}
 use lib.ListN.{length, replicate, getD-replicate, length-replicate}
 use Rattle.with_capacities.proofs.Laws.{Written, written-none, written-more, written-all}
-use Rattle.coding.proofs.row_plan.clear.Statement.{statement}
-use Rattle.coding.proofs.row_plan.clear.Tie as tie
+use Rattle.anew.proofs.result_plan.clear.Statement.{statement}
+use Rattle.anew.proofs.result_plan.clear.Tie as tie
 
 abbrev Inv-loop : tie.InvT-loop
 Inv-loop t₀ n i₀ t i = (i ≤ n) × Written (replicate n 0) t n i
