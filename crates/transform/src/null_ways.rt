@@ -4,6 +4,7 @@ ghost use mathlib.Core.Bool.{true};
 ghost use Prim.Native.Nat.{_<_};
 ghost use Rattle.transform.specs.numbers.Plan.{keptKeys, firstOfNumbers, numbersAt, runsOfNumbers};
 use crate::numbers;
+use nested_rows::node_data;
 use walk::plan_words;
 
 // No shorter way; numbers or keys; run ends over numbers.
@@ -12,6 +13,10 @@ pub const OTHER: u8 = 0;
 pub const NUMBERS: u8 = 1;
 
 pub const RUNS: u8 = 2;
+// The last code of a leaf, and of numbers of one byte.
+const LAST_LEAF: u8 = 16;
+
+const LAST_OF_ONE_BYTE: u8 = 2;
 
 // Whether the type is keys whose dictionary is kept, with values that are a leaf.
 fn is_kept_keys(plan: &[u64]) -> bool
@@ -29,7 +34,7 @@ fn is_kept_keys(plan: &[u64]) -> bool
     if plan_words::dictionary_of(plan, 1) != 0 {
         return false;
     }
-    if 16 < plan_words::code_of(plan, 1) {
+    if LAST_LEAF < plan_words::code_of(plan, 1) {
         return false;
     }
     if plan::parts::is_copied(plan, 1) {
@@ -59,7 +64,7 @@ fn is_runs(plan: &[u64]) -> bool
     if plan::parts::node_count(plan) != 3 {
         return false;
     }
-    if plan_words::code_of(plan, 0) != 23 {
+    if plan_words::code_of(plan, 0) != node_data::RUN_END {
         return false;
     }
     if plan_words::dictionary_of(plan, 0) != 0 {
@@ -74,7 +79,7 @@ fn is_runs(plan: &[u64]) -> bool
     if !is_numbers_at(plan, 2) {
         return false;
     }
-    2 < plan_words::code_of(plan, 1)
+    LAST_OF_ONE_BYTE < plan_words::code_of(plan, 1)
 }
 
 // The way of a type.
