@@ -11,7 +11,7 @@ use Rattle.columnar.specs.Array.{ok}
 use Rattle.array_data.specs.Tables.{Tables, lengthOf, offsetOf, validOf}
 use Rattle.array_data.specs.Typed.{NodeKind, fixedNode, stringNode, viewNode, listViewNode, listNode, sparseNode, denseNode, runEndNode, dictionaryNode, Tree, childNode}
 use Rattle.walk.specs.State.{keepsOf, addRows}
-use Rattle.walk.specs.Log.{Out, mask, done, wrote, next}
+use Rattle.walk.specs.Log.{mask, done, wrote, next}
 use Rattle.refinement.specs.walk_is_model.Holds.{flag}
 use Rattle.width_walks.specs.Convert.{bitsWalk}
 use Rattle.width_walks.specs.Nodes.{fromIn, manyIn, range, afterRun, childRanges, settleAs, settle, ownAs, ownWalk, turn, nodesWalk, treeWalk}

@@ -4,19 +4,16 @@ ghost use mathlib.Core.Bool.{true};
 ghost use mathlib.Core.List.{List};
 ghost use Prim.Native.Nat.{ℕ, _≤_};
 ghost use lib.ListN.{length, replicate};
-ghost use Rattle.array_data.specs.Typed.{tablesFrom};
 ghost use Rattle.array_data.specs.lent_tables.Lent.{tables};
-ghost use Rattle.array_data.specs.type_tree.Lent.{treeOf};
 ghost use Rattle.source_rules.specs.kinds.Rows.{tablesOf};
 ghost use Rattle.columns.specs.Grounds.{columnGround};
 ghost use Rattle.walk.specs.Log.{Did};
-ghost use Rattle.anew.specs.Anew.{orElse};
-ghost use Rattle.anew.specs.ResultPlan.{keepsFrom, Comes, wordsAnew, planBy};
+ghost use Rattle.anew.specs.ResultPlan.{Comes, planBy};
 ghost use Rattle.with_capacities.specs.Answer.{Answers};
 ghost use Rattle.anew.specs.result_plan.Answer.{Asks};
 ghost use Rattle.width_walks.specs.target_rules.Target.{isTarget};
-ghost use Rattle.width_walks.specs.Nodes.{treeWalk};
-ghost use Rattle.width_walks.specs.Call.{fromWords, targetGround, asked, convert};
+ghost use Rattle.width_walks.specs.Call.{fromWords, asked, convert};
+ghost use Rattle.widths.specs.Made.{groundOf, wordsOf, walkBy};
 use anew::result_plan;
 use walk::plan_words;
 
@@ -33,7 +30,7 @@ fn ground_of(
     target: u32,
     target_n: u32,
 ) -> u8
-    ensures { λ r. ⌜ r ≡ orElse (columnGround (now (formats .entry)) (now (schema .entry)) (tablesOf (now (lengths .entry)) (now (places .entry)) (now (buffers .entry)) (now (body .entry))) first n) (targetGround (now (formats .entry)) (now (schema .entry)) (tablesOf (now (lengths .entry)) (now (places .entry)) (now (buffers .entry)) (now (body .entry))) first n target «target_n») ⌝ }
+    ensures { λ r. ⌜ r ≡ groundOf (now (formats .entry)) (now (schema .entry)) (tablesOf (now (lengths .entry)) (now (places .entry)) (now (buffers .entry)) (now (body .entry))) first n target «target_n» ⌝ }
 {
     let g = columns::column_ground(formats, schema, lengths, places, buffers, body, first, n);
     if g != 0 {
@@ -77,7 +74,7 @@ fn words_of(
     words: &mut [u64; result_plan::NODE_WORDS],
 )
     requires { ⌜ (n ≤ 32) × Comes (tables (now lengths) (now places) (now body)) first n (fromWords (now formats) (now schema) first n (replicate 32 0)) ⌝ }
-    ensures { λ _. ⌜ now (words .exit) ≡ wordsAnew (now (formats .entry)) (now (schema .entry)) target n (keepsFrom (tables (now (lengths .entry)) (now (places .entry)) (now (body .entry))) first (fromWords (now (formats .entry)) (now (schema .entry)) first n (replicate 32 0))) true ⌝ }
+    ensures { λ _. ⌜ now (words .exit) ≡ wordsOf (now (formats .entry)) (now (schema .entry)) (tables (now (lengths .entry)) (now (places .entry)) (now (body .entry))) first n target ⌝ }
 {
     let from = from_words(formats, schema, first, n);
     result_plan::words_anew(
@@ -192,7 +189,8 @@ fn make(
     requires { ⌜ (length (now plan) ≡ 872) × (length (now counters) ≡ 96) × (n ≤ 32) ⌝ }
     requires { ⌜ ((buffers : List ℕ) × (columnGround (now formats) (now schema) (tablesOf (now lengths) (now places) buffers (now body)) first n ≡ 0)) ⌝ }
     requires { ⌜ isTarget (now formats) (now schema) first n target n ≡ true ⌝ }
-    ensures { λ r. ⌜ (now (plan .exit) ≡ planBy (now (words .entry)) n 0) × ((buffers : List ℕ) → Did (planBy (now (words .entry)) n 0) (now (parts .entry)) true (treeWalk (treeOf (now (formats .entry)) (now (schema .entry)) first n) (treeOf (now (formats .entry)) (now (schema .entry)) target n) (tablesFrom (tablesOf (now (lengths .entry)) (now (places .entry)) buffers (now (body .entry))) first) (planBy (now (words .entry)) n 0) (replicate 96 0)) (now (room .entry)) r (now (counters .exit)) (now (room .exit))) ⌝ }
+    ensures { λ _. ⌜ now (plan .exit) ≡ planBy (now (words .entry)) n 0 ⌝ }
+    ensures { λ r. ⌜ ((buffers : List ℕ) → Did (planBy (now (words .entry)) n 0) (now (parts .entry)) true (walkBy (now (formats .entry)) (now (schema .entry)) (tablesOf (now (lengths .entry)) (now (places .entry)) buffers (now (body .entry))) first n target (planBy (now (words .entry)) n 0)) (now (room .entry)) r (now (counters .exit)) (now (room .exit))) ⌝ }
 {
     result_plan::plan_by(words, n as usize, 0, plan);
     let mut tally = [0u64; plan_words::COUNTERS];

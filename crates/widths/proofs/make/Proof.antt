@@ -1,10 +1,7 @@
 -- `widths::make` meets its contract. Assumes nothing.
 use mathlib.Core.Path.{_∙_}
-use lib.ListN.{replicate}
-use Rattle.array_data.specs.Typed.{tablesFrom}
-use Rattle.array_data.specs.type_tree.Lent.{treeOf}
 use Rattle.source_rules.specs.kinds.Rows.{tablesOf}
-use Rattle.width_walks.specs.Nodes.{treeWalk}
+use Rattle.widths.specs.Made.{walkBy}
 use Rattle.widths.proofs.Called.{recount, replan}
 use borrow.Author.Needs.{needs}
 use Rattle.widths.proofs.make.Statement.{statement}
@@ -37,7 +34,7 @@ same-length-3 c = search needs
 returns : tie.Need-returns
 returns c =
     let z = c .before .before .before .before .before .before .before .before .before .before .before .before .before .before .before .before .before .before .before .before .before .before .before .before .before .args in
-    (c .before .before .before .before .before .before .before .before .before .before .before .before .before .before .plan-by .ensures, λ buffers. recount (c .before .before .store .ensures ∙ c .before .before .before .before .before .copied .ensures) (replan (λ draft. treeWalk (treeOf (z .formats .now) (z .schema .now) (z .first) (z .n)) (treeOf (z .formats .now) (z .schema .now) (z .target) (z .n)) (tablesFrom (tablesOf (z .lengths .now) (z .places .now) buffers (z .body .now)) (z .first)) draft (replicate 96 0)) (c .before .before .before .before .before .before .before .before .before .before .before .before .before .before .plan-by .ensures) (c .before .before .before .before .before .before .before .before .convert-walk .ensures buffers)))
+    (c .before .before .before .before .before .before .before .before .before .before .before .before .before .before .plan-by .ensures, λ buffers. recount (c .before .before .store .ensures ∙ c .before .before .before .before .before .copied .ensures) (replan (walkBy (z .formats .now) (z .schema .now) (tablesOf (z .lengths .now) (z .places .now) buffers (z .body .now)) (z .first) (z .n) (z .target)) (c .before .before .before .before .before .before .before .before .before .before .before .before .before .before .plan-by .ensures) (c .before .before .before .before .before .before .before .before .convert-walk .ensures buffers)))
 
 pub make-spec : {M : Type 1} → statement M
 make-spec = tie.close (tie.spec plan-by-requires convert-walk-requires copied-requires slice-aggregate-store store-requires same-length same-length-2 same-length-3 returns)

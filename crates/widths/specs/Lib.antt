@@ -1,0 +1,2 @@
+-- What the contracts of the converter's own functions cite.
+pub mod Made
