@@ -1,6 +1,6 @@
 // A fixed-width column into runs and back, as C calls (02, W1). What they leave is finished by `lafkuno_finish`.
-ghost use Rattle.source_rules.specs.kinds.Rows.{tablesOf};
-ghost use Rattle.with_capacities.specs.Answer.{Answers};
+ghost use Rattle.clauses.specs.Slices.{was, left};
+ghost use Rattle.with_capacities.specs.Answer.{Makes, lentTables};
 ghost use Rattle.anew.specs.result_plan.Answer.{Asks};
 ghost use Rattle.coding.specs.Encode.{encodeAsked, encoding};
 ghost use Rattle.coding.specs.Expand.{expandAsked, expanding};
@@ -25,7 +25,7 @@ pub extern "C" fn lafkuno_plan_encode(
     plan: &mut [u64],
     counters: &mut [u64],
 ) -> u8
-    ensures { λ r. ⌜ Asks (encodeAsked (now (formats .entry)) (now (schema .entry)) (tablesOf (now (lengths .entry)) (now (places .entry)) (now (buffers .entry)) (now (body .entry))) first n target start end (now (plan .entry)) (now (counters .entry))) r (now (plan .exit)) (now (counters .exit)) ⌝ }
+    ensures { λ r. ⌜ Asks (encodeAsked (was formats) (was schema) (lentTables lengths places buffers body) first n target start end (was plan) (was counters)) r (left plan) (left counters) ⌝ }
 {
     encode::plan_encode(
         formats,
@@ -63,7 +63,7 @@ pub extern "C" fn lafkuno_encode(
     counters: &mut [u64],
     room: &mut [u8],
 ) -> u8
-    ensures { λ r. ⌜ Answers (encoding (now (formats .entry)) (now (schema .entry)) (tablesOf (now (lengths .entry)) (now (places .entry)) (now (buffers .entry)) (now (body .entry))) first n target start end (now (parts .entry)) (now (plan .entry)) (now (counters .entry)) (now (room .entry))) r (now (plan .exit)) (now (counters .exit)) (now (room .exit)) ⌝ }
+    ensures { λ r. ⌜ Makes (encoding (was formats) (was schema) (lentTables lengths places buffers body) first n target start end (was parts)) plan counters room r ⌝ }
 {
     encode::encode(
         formats,
@@ -102,7 +102,7 @@ pub extern "C" fn lafkuno_plan_expand(
     plan: &mut [u64],
     counters: &mut [u64],
 ) -> u8
-    ensures { λ r. ⌜ Asks (expandAsked (now (formats .entry)) (now (schema .entry)) (tablesOf (now (lengths .entry)) (now (places .entry)) (now (buffers .entry)) (now (body .entry))) first n target start end (now (plan .entry)) (now (counters .entry))) r (now (plan .exit)) (now (counters .exit)) ⌝ }
+    ensures { λ r. ⌜ Asks (expandAsked (was formats) (was schema) (lentTables lengths places buffers body) first n target start end (was plan) (was counters)) r (left plan) (left counters) ⌝ }
 {
     expand::plan_expand(
         formats,
@@ -140,7 +140,7 @@ pub extern "C" fn lafkuno_expand(
     counters: &mut [u64],
     room: &mut [u8],
 ) -> u8
-    ensures { λ r. ⌜ Answers (expanding (now (formats .entry)) (now (schema .entry)) (tablesOf (now (lengths .entry)) (now (places .entry)) (now (buffers .entry)) (now (body .entry))) first n target start end (now (parts .entry)) (now (plan .entry)) (now (counters .entry)) (now (room .entry))) r (now (plan .exit)) (now (counters .exit)) (now (room .exit)) ⌝ }
+    ensures { λ r. ⌜ Makes (expanding (was formats) (was schema) (lentTables lengths places buffers body) first n target start end (was parts)) plan counters room r ⌝ }
 {
     expand::expand(
         formats,

@@ -1,6 +1,6 @@
 // A column in other widths, as C calls (02, W13). What they leave is finished by `lafkuno_finish`.
-ghost use Rattle.source_rules.specs.kinds.Rows.{tablesOf};
-ghost use Rattle.with_capacities.specs.Answer.{Answers};
+ghost use Rattle.clauses.specs.Slices.{was, left};
+ghost use Rattle.with_capacities.specs.Answer.{Makes, lentTables};
 ghost use Rattle.anew.specs.result_plan.Answer.{Asks};
 ghost use Rattle.width_walks.specs.Call.{asked, convert};
 
@@ -21,7 +21,7 @@ pub extern "C" fn lafkuno_plan_convert(
     plan: &mut [u64],
     counters: &mut [u64],
 ) -> u8
-    ensures { λ r. ⌜ Asks (asked (now (formats .entry)) (now (schema .entry)) (tablesOf (now (lengths .entry)) (now (places .entry)) (now (buffers .entry)) (now (body .entry))) first n target «target_n» (now (plan .entry)) (now (counters .entry))) r (now (plan .exit)) (now (counters .exit)) ⌝ }
+    ensures { λ r. ⌜ Asks (asked (was formats) (was schema) (lentTables lengths places buffers body) first n target «target_n» (was plan) (was counters)) r (left plan) (left counters) ⌝ }
 {
     widths::plan_convert(
         formats,
@@ -57,7 +57,7 @@ pub extern "C" fn lafkuno_convert(
     counters: &mut [u64],
     room: &mut [u8],
 ) -> u8
-    ensures { λ r. ⌜ Answers (convert (now (formats .entry)) (now (schema .entry)) (tablesOf (now (lengths .entry)) (now (places .entry)) (now (buffers .entry)) (now (body .entry))) first n target «target_n» (now (parts .entry)) (now (plan .entry)) (now (counters .entry)) (now (room .entry))) r (now (plan .exit)) (now (counters .exit)) (now (room .exit)) ⌝ }
+    ensures { λ r. ⌜ Makes (convert (was formats) (was schema) (lentTables lengths places buffers body) first n target «target_n» (was parts)) plan counters room r ⌝ }
 {
     widths::convert(
         formats,

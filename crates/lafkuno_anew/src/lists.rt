@@ -1,11 +1,11 @@
 // A list-view column as a list, and a list column as a list-view (W4). What they leave is finished by `lafkuno_finish`; a list-view's child, which has
 // no part, is then named behind its root. Of either, the `target_n` nodes from node `target` on are the type of the result.
-ghost use Rattle.source_rules.specs.kinds.Rows.{tablesOf};
-ghost use Rattle.with_capacities.specs.Answer.{Answers};
+ghost use Rattle.clauses.specs.Slices.{was, left};
+ghost use Rattle.with_capacities.specs.Answer.{Makes, lentTables};
 ghost use Rattle.anew.specs.result_plan.Answer.{Asks};
 ghost use Rattle.convert.specs.convert_lists.ToList.{askList, makeList};
 ghost use Rattle.convert.specs.convert_lists.ToView.{askView, makeView};
-ghost use Rattle.convert.specs.child_names.Names.{naming, Names};
+ghost use Rattle.convert.specs.child_names.Names.{naming, Named};
 use convert::to_list;
 use convert::to_view;
 
@@ -25,7 +25,7 @@ pub extern "C" fn lafkuno_plan_list(
     plan: &mut [u64],
     counters: &mut [u64],
 ) -> u8
-    ensures { λ r. ⌜ Asks (askList (now (formats .entry)) (now (schema .entry)) (tablesOf (now (lengths .entry)) (now (places .entry)) (now (buffers .entry)) (now (body .entry))) first n target «target_n» (now (plan .entry)) (now (counters .entry))) r (now (plan .exit)) (now (counters .exit)) ⌝ }
+    ensures { λ r. ⌜ Asks (askList (was formats) (was schema) (lentTables lengths places buffers body) first n target «target_n» (was plan) (was counters)) r (left plan) (left counters) ⌝ }
 {
     to_list::plan_list(
         formats,
@@ -61,7 +61,7 @@ pub extern "C" fn lafkuno_list(
     counters: &mut [u64],
     room: &mut [u8],
 ) -> u8
-    ensures { λ r. ⌜ Answers (makeList (now (formats .entry)) (now (schema .entry)) (tablesOf (now (lengths .entry)) (now (places .entry)) (now (buffers .entry)) (now (body .entry))) first n target «target_n» (now (parts .entry)) (now (plan .entry)) (now (counters .entry)) (now (room .entry))) r (now (plan .exit)) (now (counters .exit)) (now (room .exit)) ⌝ }
+    ensures { λ r. ⌜ Makes (makeList (was formats) (was schema) (lentTables lengths places buffers body) first n target «target_n» (was parts)) plan counters room r ⌝ }
 {
     to_list::to_list(
         formats,
@@ -97,7 +97,7 @@ pub extern "C" fn lafkuno_plan_list_view(
     plan: &mut [u64],
     counters: &mut [u64],
 ) -> u8
-    ensures { λ r. ⌜ Asks (askView (now (formats .entry)) (now (schema .entry)) (tablesOf (now (lengths .entry)) (now (places .entry)) (now (buffers .entry)) (now (body .entry))) first n target «target_n» (now (plan .entry)) (now (counters .entry))) r (now (plan .exit)) (now (counters .exit)) ⌝ }
+    ensures { λ r. ⌜ Asks (askView (was formats) (was schema) (lentTables lengths places buffers body) first n target «target_n» (was plan) (was counters)) r (left plan) (left counters) ⌝ }
 {
     to_view::plan_list_view(
         formats,
@@ -133,7 +133,7 @@ pub extern "C" fn lafkuno_list_view(
     counters: &mut [u64],
     room: &mut [u8],
 ) -> u8
-    ensures { λ r. ⌜ Answers (makeView (now (formats .entry)) (now (schema .entry)) (tablesOf (now (lengths .entry)) (now (places .entry)) (now (buffers .entry)) (now (body .entry))) first n target «target_n» (now (parts .entry)) (now (plan .entry)) (now (counters .entry)) (now (room .entry))) r (now (plan .exit)) (now (counters .exit)) (now (room .exit)) ⌝ }
+    ensures { λ r. ⌜ Makes (makeView (was formats) (was schema) (lentTables lengths places buffers body) first n target «target_n» (was parts)) plan counters room r ⌝ }
 {
     to_view::to_list_view(
         formats,
@@ -169,7 +169,7 @@ pub extern "C" fn lafkuno_list_view_child(
     new_nulls: &mut [u64],
     new_places: &mut [u64],
 ) -> u8
-    ensures { λ r. ⌜ Names (naming (now (formats .entry)) (now (schema .entry)) (tablesOf (now (lengths .entry)) (now (places .entry)) (now (buffers .entry)) (now (body .entry))) first n (now («new_lengths» .entry)) (now («new_nulls» .entry)) (now («new_places» .entry))) r (now («new_lengths» .exit)) (now («new_nulls» .exit)) (now («new_places» .exit)) ⌝ }
+    ensures { λ r. ⌜ Named (naming (was formats) (was schema) (lentTables lengths places buffers body) first n) «new_lengths» «new_nulls» «new_places» r ⌝ }
 {
     convert::child_names::name_child(
         formats,

@@ -1,6 +1,7 @@
 // Reclaiming the unused entries of a dictionary column (W9).
+ghost use Rattle.clauses.specs.Slices.{was, left};
 ghost use Rattle.source_rules.specs.kinds.Rows.{tablesOf};
-ghost use Rattle.with_capacities.specs.Answer.{Answers};
+ghost use Rattle.with_capacities.specs.Answer.{Makes, lentTables};
 ghost use Rattle.anew.specs.result_plan.Answer.{Asks};
 ghost use Rattle.reclaim.specs.Reclaim.{reclaimAsked, reclaiming};
 
@@ -18,7 +19,7 @@ pub extern "C" fn lafkuno_plan_reclaim(
     plan: &mut [u64],
     counters: &mut [u64],
 ) -> u8
-    ensures { λ r. ⌜ Asks (reclaimAsked (now (formats .entry)) (now (schema .entry)) (tablesOf (now (lengths .entry)) (now (places .entry)) (now (buffers .entry)) (now (body .entry))) first n (now (plan .entry)) (now (counters .entry))) r (now (plan .exit)) (now (counters .exit)) ⌝ }
+    ensures { λ r. ⌜ Asks (reclaimAsked (was formats) (was schema) (tablesOf (was lengths) (was places) (was buffers) (was body)) first n (was plan) (was counters)) r (left plan) (left counters) ⌝ }
 {
     reclaim::plan_reclaim(
         formats,
@@ -50,7 +51,7 @@ pub extern "C" fn lafkuno_reclaim(
     counters: &mut [u64],
     room: &mut [u8],
 ) -> u8
-    ensures { λ r. ⌜ Answers (reclaiming (now (formats .entry)) (now (schema .entry)) (tablesOf (now (lengths .entry)) (now (places .entry)) (now (buffers .entry)) (now (body .entry))) first n (now (parts .entry)) (now (plan .entry)) (now (counters .entry)) (now (room .entry))) r (now (plan .exit)) (now (counters .exit)) (now (room .exit)) ⌝ }
+    ensures { λ r. ⌜ Makes (reclaiming (was formats) (was schema) (lentTables lengths places buffers body) first n (was parts)) plan counters room r ⌝ }
 {
     reclaim::reclaim(
         formats,
