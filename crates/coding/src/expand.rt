@@ -118,10 +118,10 @@ fn row_of(
 
 // The run of a row, by the run reader.
 fn first_run(lengths: &[u64], places: &[u64], body: &[u8], first: u32, width: u8, row: u64) -> usize
-    requires { ⌜ offsetOf (column (now lengths) [] [] [] first) 1 + lengthOf (column (now lengths) [] [] [] first) 1 < 2 ^ 63 ⌝ }
-    requires { ⌜ (0 < width * (offsetOf (column (now lengths) [] [] [] first) 1 + lengthOf (column (now lengths) [] [] [] first) 1) → place (column [] (now places) [] [] first) 1 3 + width * (offsetOf (column (now lengths) [] [] [] first) 1 + lengthOf (column (now lengths) [] [] [] first) 1) < 2 ^ 64) ⌝ }
-    requires { ⌜ (endsOf (column (now lengths) (now places) [] [] first) width .start ≤ endsOf (column (now lengths) (now places) [] [] first) width .stop) × (endsOf (column (now lengths) (now places) [] [] first) width .stop ≤ length (now body)) ⌝ }
-    ensures { λ r. ⌜ r ≡ runOr (rowRun (part (now (body .entry)) (endsOf (column (now (lengths .entry)) (now (places .entry)) [] [] first) width .start) (endsOf (column (now (lengths .entry)) (now (places .entry)) [] [] first) width .stop - endsOf (column (now (lengths .entry)) (now (places .entry)) [] [] first) width .start)) (offsetOf (column (now (lengths .entry)) [] [] [] first) 0) (lengthOf (column (now (lengths .entry)) [] [] [] first) 0) width row) ⌝ }
+    requires { ⌜ (let x = column (now lengths) (now places) [] [] first in offsetOf x 1 + lengthOf x 1 < 2 ^ 63) ⌝ }
+    requires { ⌜ (let x = column (now lengths) (now places) [] [] first in let size = width * (offsetOf x 1 + lengthOf x 1) in (0 < size → place x 1 3 + size < 2 ^ 64)) ⌝ }
+    requires { ⌜ (let e = endsOf (column (now lengths) (now places) [] [] first) width in (e .start ≤ e .stop) × (e .stop ≤ length (now body))) ⌝ }
+    ensures { λ r. ⌜ (let x = column (now (lengths .entry)) (now (places .entry)) [] [] first in let e = endsOf x width in r ≡ runOr (rowRun (part (now (body .entry)) (e .start) (e .stop - e .start)) (offsetOf x 0) (lengthOf x 0) width row)) ⌝ }
 {
     let e = stretches::find_ends(lengths, places, first, width);
     match stretches::stretch_at(body, e, row) {

@@ -45,8 +45,8 @@ pub fn ends_hold(w: u8, m: u64) -> bool
 
 // Where the rows of w bytes of node i stand, from row `start` on.
 pub fn slots_of(lengths: &[u64], places: &[u64], first: u32, i: usize, w: u8, start: u64) -> Slots
-    requires { ⌜ (i < 2 ^ 32) × (offsetOf (column (now lengths) [] [] [] first) i + start < 2 ^ 64) × (place (column [] (now places) [] [] first) i 3 + (offsetOf (column (now lengths) [] [] [] first) i + start) * w < 2 ^ 64) ⌝ }
-    ensures { λ r. ⌜ (r .start ≡ place (column [] (now (places .entry)) [] [] first) i 3 + (offsetOf (column (now (lengths .entry)) [] [] [] first) i + start) * w) × (r .mask ≡ place (column [] (now (places .entry)) [] [] first) i 1) × (r .bit ≡ offsetOf (column (now (lengths .entry)) [] [] [] first) i + start) ⌝ }
+    requires { ⌜ (let x = column (now lengths) (now places) [] [] first in (i < 2 ^ 32) × (offsetOf x i + start < 2 ^ 64) × (place x i 3 + (offsetOf x i + start) * w < 2 ^ 64)) ⌝ }
+    ensures { λ r. ⌜ (let x = column (now (lengths .entry)) (now (places .entry)) [] [] first in (r .start ≡ place x i 3 + (offsetOf x i + start) * w) × (r .mask ≡ place x i 1) × (r .bit ≡ offsetOf x i + start)) ⌝ }
 {
     let bit = (entries::offset_at(lengths, first, i) + start) as usize;
     let at = entries::place_at(places, first, i, 3) as usize;
