@@ -6,17 +6,6 @@ use Rattle.columnar.specs.Types.{Number, Plain, Ty, tPlain, tView, tList
 use Rattle.columnar.specs.Reading.{Body, Column, Source}
 use Rattle.columnar.specs.Kids.{Kid, kidTy, kidAt, Below}
 
--- proofs by the same recursion
-pub ty-ind : {P : Ty → Type 0} → ((t : Ty) → ((k : Kid t) → P (kidTy t k)) → P t) → (t : Ty) → P t
-ty-ind step (tPlain p) = step (tPlain p) (λ k. absurd k)
-ty-ind step tView = step tView (λ k. absurd k)
-ty-ind step (tListView w t) = step (tListView w t) (λ k. ty-ind step t)
-ty-ind step (tList w t) = step (tList w t) (λ k. ty-ind step t)
-ty-ind step (tSparse ids nullable f) = step (tSparse ids nullable f) (λ k. ty-ind step (f (k .0)))
-ty-ind step (tDense ids nullable f) = step (tDense ids nullable f) (λ k. ty-ind step (f (k .0)))
-ty-ind step (tRunEnd w t) = step (tRunEnd w t) (λ k. ty-ind step t)
-ty-ind step (tDictionary n p) = step (tDictionary n p) (λ k. absurd k)
-
 module _ {X : Ty → Type 0} (down : (t : Ty) → X t → (k : Kid t) → X (kidTy t k)) (atView : X tView → Type 0) (atKeys : (n : Number) (p : Plain) → X (tDictionary n p) → Type 0) where
   -- at a child
   pub below-kid : (t : Ty) (x : X t) → Below down atView atKeys t x → (k : Kid t) → Below down atView atKeys (kidTy t k) (down t x k)

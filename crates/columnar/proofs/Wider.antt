@@ -38,9 +38,6 @@ module _ {t t′ : Ty} (d : Wider t t′) {x : Column t} {x′ : Column t′} (h
   pub nulls-same : nullCount x ≡ nullCount x′
   nulls-same = nulls-kept h
 
-  pub has-null-same : 0 < nullCount x ↔ 0 < nullCount x′
-  has-null-same = rw nulls-same ((λ q. q), (λ q. q))
-
 -- ---- n sources
 
 module _ {t t′ : Ty} (d : Wider t t′) (n : ℕ) (ss : ℕ → Column t) (ss′ : ℕ → Column t′) (h : Again d n ss ss′) where

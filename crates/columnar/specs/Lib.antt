@@ -16,4 +16,5 @@ pub mod Kids
 pub mod Wider
 pub mod Formed
 pub mod Test
+pub mod Written
 pub mod Examples

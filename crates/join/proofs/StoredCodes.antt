@@ -124,3 +124,12 @@ ends-kept c c′ k b n (list-views p q w) h = absurd (omega (arith, range 17 18 
 ends-kept c c′ k b n (plain-lists p q w) h = absurd (omega (arith, range 19 20 c p .0, ends-range c h .1))
 ends-kept c c′ k b n (keys e p q w) h = absurd (false≢true (sym n ∙ e))
 ends-kept c c′ k b n (run-ends e p q w) h = q
+
+-- a union's code is the same
+pub union-code : {keyed ended : Bool} (c c′ : ℕ) → isUnion c ≡ true → CodeWider keyed ended c c′ → c ≡ c′
+union-code c c′ g (same-code e) = e
+union-code c c′ g (strings a b r) = absurd (omega (arith, range 21 22 c g .0, range 11 14 c a .1))
+union-code c c′ g (list-views a b r) = absurd (omega (arith, range 21 22 c g .0, range 17 18 c a .1))
+union-code c c′ g (plain-lists a b r) = absurd (omega (arith, range 21 22 c g .0, range 19 20 c a .1))
+union-code c c′ g (keys k a b r) = absurd (omega (arith, range 21 22 c g .0, range 1 8 c a .1))
+union-code c c′ g (run-ends k a b r) = absurd (omega (arith, range 21 22 c g .0, ends-range c a .1))

@@ -29,7 +29,7 @@ use Rattle.array_data.specs.Sources.{firstOf, nodesOf}
 use Rattle.columns.proofs.Grounds.{Accepted, accepted, some-source, within-low, within-at, typed-at}
 use Rattle.join.specs.Join.{Lending, typeIn}
 use Rattle.join.specs.Stored.{StoredWider, isEnds, CodeWider, same-code, strings, list-views, plain-lists, keys, run-ends, endsAt, NodeWider}
-use Rattle.join.proofs.StoredCodes.{range, ends-range, near, view-kept, string-kept, list-kept, plain-list-kept, run-kept}
+use Rattle.join.proofs.StoredCodes.{range, ends-range, near, view-kept, string-kept, list-kept, plain-list-kept, run-kept, union-code}
 use Rattle.join.proofs.Stored.{end-same}
 use Rattle.array_data.proofs.Names.{idsOr, unionKind}
 use Rattle.join.proofs.StoredNodes.{integer-number, prev, prev-later, prev-child, no-run, not-keyed, below-single, bare-single, bare-below}
@@ -159,15 +159,6 @@ module _ (formats schema : List ℕ) (x : Tables) (first : ℕ) (formats′ sche
           k-lists (widthOf (code i)) (widthOf (code′ i)) (go-list g (nodes i l .wider-code)) (at-lists formats schema first i g)
           (at-lists formats′ schema′ first′ i (plain-list-kept (code i) (code′ i) (near (nodes i l .wider-code)) g)) z (no-run 19 20 (code i) g (omega arith))
 
-  -- a union's code is the same
-  union-code : (i : ℕ) → isUnion (code i) ≡ true → CodeWider (eqb (dictionary schema first i) 1) (ended i) (code i) (code′ i) → code i ≡ code′ i
-  union-code i g (same-code e) = e
-  union-code i g (strings a b r) = absurd (omega (arith, range 21 22 (code i) g .0, range 11 14 (code i) a .1))
-  union-code i g (list-views a b r) = absurd (omega (arith, range 21 22 (code i) g .0, range 17 18 (code i) a .1))
-  union-code i g (plain-lists a b r) = absurd (omega (arith, range 21 22 (code i) g .0, range 19 20 (code i) a .1))
-  union-code i g (keys k a b r) = absurd (omega (arith, range 21 22 (code i) g .0, range 1 8 (code i) a .1))
-  union-code i g (run-ends k a b r) = absurd (omega (arith, range 21 22 (code i) g .0, ends-range (code i) a .1))
-
   ids-children : (o : Option (List ℕ)) (i : ℕ) → childForEach schema first o i ≡ true → children schema first i ≡ length (idsOr o)
   ids-children none i h = absurd (false≢true h)
   ids-children (some ids) i h = sym (eqb-true (length ids) (children schema first i) h)
@@ -178,7 +169,7 @@ module _ (formats schema : List ℕ) (x : Tables) (first : ℕ) (formats′ sche
       let ids = idsOf formats schema first i in
       let p = both (isUnion (code i) && childForEach schema first ids i) (eqb (dictionary schema first i) 0) h in
       let q = both (isUnion (code i)) (childForEach schema first ids i) (p .0) in
-      let e = union-code i (q .0) (nodes i l .wider-code) in
+      let e = union-code (code i) (code′ i) (q .0) (nodes i l .wider-code) in
       let b = below-single schema first i (p .1) ∙ ids-children ids i (q .1) in
       let a = at-union formats schema first i (q .0) in
       let a′ = at-union formats′ schema′ first′ i (subst (λ c. isUnion c ≡ true) e (q .0)) ∙ ap (λ c. unionKind (eqb c 21) (idsOr (idsOf formats′ schema′ first′ i))) (sym e) ∙ ap (λ o. unionKind (eqb (code i) 21) (idsOr o)) (sym (nodes i l .same-ids (q .0))) in

@@ -1,28 +1,25 @@
 -- A COPY CUT IN TWO, for every type: the single copy is accepted where its halves are, and holds no more. Assumes nothing.
 use mathlib.Core.Path.{_≡_, refl, sym, ap, ap₂, _∙_, subst}
-use mathlib.Core.Bool.{Bool, true, false}
+use mathlib.Core.Bool.{Bool}
 use mathlib.Core.List.{List, List·Memᴰ}
 use Prim.Native.Nat.{ℕ, zero, suc, _+_, _-_, _≤_, _<_, min}
 use native.Mathlib.Nat.{add-zero, add-assoc}
 use native.Mathlib.Decide.{decLt}
 use native.Mathlib.Omega.{arith}
-use lib.Dec.{ltb}
-use borrow.Author.Tests.{lt-ltb}
 use Rattle.columnar.specs.Types.{Plain, fixed, string, half, Ty, tPlain, tView, tListView, tList, tSparse, tDense, tRunEnd, tDictionary}
-use Rattle.columnar.specs.Array.{Array, item, Obeys}
-use Rattle.columnar.specs.Plain.{Text, PlainBody, OffsetsRule, StringRule, empty, full, PlainRule}
-use Rattle.columnar.specs.ListView.{ListView}
-use Rattle.columnar.specs.Union.{Sparse, Dense}
-use Rattle.columnar.specs.RunEnd.{RunEnd, endOf, firstAbove, startOf, RunEndRule}
-use Rattle.columnar.specs.Reading.{Body, Column, Source}
-use Rattle.model.specs.Try.{Try, done, stop, then, after, stepsT}
-use Rattle.model.specs.Grounds.{Counts, counts, absent, rowsOf, bytesOf, kidOf, leaf, Ask, askOf, plainAsk, listViewRow, among, denseRow, firstRun, runCount, runEndAsk, askCopy}
-use Rattle.model.specs.Cut.{Under, outside, inRuns, exempt, underRuns, underList, OneRunMore, CutNode, CutBelow, Cut}
+use Rattle.columnar.specs.Array.{item}
+use Rattle.columnar.specs.Plain.{OffsetsRule, StringRule, empty, full}
+use Rattle.columnar.specs.RunEnd.{endOf, firstAbove, startOf}
+use Rattle.columnar.specs.Reading.{Column, Source}
+use Rattle.model.specs.Try.{Try, done, after, stepsT}
+use Rattle.model.specs.Grounds.{Counts, counts, absent, rowsOf, bytesOf, kidOf, leaf, askOf, listViewRow, among, denseRow, firstRun, runCount, askCopy}
+use Rattle.model.specs.Cut.{Under, outside, inRuns, exempt, underRuns, underList, OneRunMore, CutBelow, Cut}
 use Rattle.model.proofs.Ids.{among-in}
-use Rattle.model.proofs.Ends.{Holds, found, start-le, find-le}
-use Rattle.model.proofs.CutTries.{done-is, Then, then-done, then-is, guard-is, steps-cut, each-is}
-use Rattle.model.proofs.CutKinds.{TextAsked, text-asked, SparseAsked, sparse-asked, ListsAsked, lists-asked, lists-ask, RunsAsked, runs-asked, runs-ask, rows-after}
+use Rattle.model.proofs.Ends.{found, start-le, find-le}
+use Rattle.model.proofs.CutTries.{done-is, then-done, then-is, guard-is, steps-cut, each-is}
+use Rattle.model.proofs.CutKinds.{text-asked, sparse-asked, lists-asked, lists-ask, runs-asked, runs-ask, rows-after}
 use Rattle.model.proofs.CutLess.{after-is, among-cut, Led, copy-again, Few, few-none, copy-more}
+use Rattle.model.proofs.CutSums.{some-less, some-sum, sum-less, sum-fits, le-same, le-lt, in-reach, spread}
 
 -- the rows a .. a + n - 1 and then k .. k + m - 1, which begin o rows before the first ones end, against all s of them at once: o is 0
 -- below no run-end node, at most 1 below one, and anything where runs are not counted
@@ -44,33 +41,6 @@ abbrev pub AnyCuts : (t : Ty) → Under → Column t → Type 0
 AnyCuts t u x =
     (o a n k m s : ℕ) → Ranges u (x .len) o a n k m s → (c d e : Counts) → askOf (askCopy t) x a n c ≡ done d → askOf (askCopy t) x k m d ≡ done e
     → Led (λ v. Cut t u v e) (askOf (askCopy t) x a s c)
-
--- ---- sums
-
-some-less : (f l : ℕ) → f ≤ l → 0 < suc l - f
-some-less f l h = omega arith
-
-some-sum : (o n m s : ℕ) → s + o ≡ n + m → o ≤ m → 0 < n → 0 < s
-some-sum o n m s e h k = omega arith
-
-sum-less : (r r₁ o n m s : ℕ) → r₁ ≡ r + n → s + o ≡ n + m → r + s ≤ r₁ + m
-sum-less r r₁ o n m s e f = omega arith
-
-sum-fits : (r r₁ o n m s l : ℕ) → r₁ ≡ r + n → s + o ≡ n + m → r₁ + m < l → r + s < l
-sum-fits r r₁ o n m s l e f h = omega arith
-
-le-same : (n : ℕ) → n ≤ n
-le-same n = omega arith
-
-le-lt : (a b l : ℕ) → a ≤ b → b < l → ltb a l ≡ true
-le-lt a b l h k = lt-ltb a l (omega arith)
-
-in-reach : (o a n k m s len : ℕ) → k + o ≡ a + n → s + o ≡ n + m → o ≤ m → a + s ≤ len → k + o ≤ len
-in-reach o a n k m s len e f h q = omega arith
-
--- the ranges of rows as ranges of slots
-spread : (off len top o a n k m s : ℕ) → k + o ≡ a + n → s + o ≡ n + m → a + s ≤ len → off + len ≤ top → (off + k + o ≡ off + a + n) × (off + k + m ≡ off + a + s) × (off + a + s ≤ top)
-spread off len top o a n k m s e f h t = (omega arith, omega arith, omega arith)
 
 -- ---- rows alone
 

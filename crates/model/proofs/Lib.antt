@@ -42,7 +42,9 @@ pub mod WiderTheorem
 pub mod CutTries
 pub mod CutKinds
 pub mod CutLess
+pub mod CutSums
 pub mod CutCopy
 pub mod CutOrder
+pub mod CutOffsets
 pub mod CutBytes
 pub mod CutFinish

@@ -2,5 +2,6 @@
 pub mod Laws
 pub mod Words
 pub mod Codes
+pub mod Bases
 pub mod Nodes
 pub mod Typed

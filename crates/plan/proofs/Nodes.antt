@@ -3,16 +3,13 @@
 use mathlib.Core.Path.{_≡_, refl, sym, ap, _∙_}
 use mathlib.Core.Bool.{Bool, true, false, not, _&&_}
 use mathlib.Core.List.{List, [], _∷_}
-use Prim.Native.Nat.{ℕ, zero, suc, _+_, _*_, _-_, _^_, _≤_, _<_}
-use native.Mathlib.Nat.{min-eq-left}
+use Prim.Native.Nat.{ℕ, zero, suc, _+_, _-_, _≤_, _<_}
 use native.Mathlib.Omega.{arith}
-use lib.ListN.{length, take, drop, getD, length-append}
+use lib.ListN.{length, take, drop}
 use lib.Dec.{leb, ltb, eqb}
 use borrow.Author.Tests.{eqb-true, eqb-false, ltb-true, ltb-false, leb-true, ne-eqb}
-use Rattle.columnar.specs.Types.{Number, i8, u8, i16, u16, i32, u32, i64, u64, f32, f64, limit, Plain, fixed, string, Ty, tView}
-use Rattle.columnar.specs.Row.{seg}
+use Rattle.columnar.specs.Types.{Number, Plain, fixed, string, Ty, tView}
 use Rattle.columnar.specs.Plain.{PlainBody}
-use Rattle.columnar.specs.View.{Views}
 use Rattle.columnar.specs.Dictionary.{Dictionary}
 use Rattle.schema.specs.formats.Code.{Rule, is, begins, table, look, codeAt, isString, isView, isRunEnd}
 use Rattle.schema.specs.formats.Code as formatCode
@@ -24,25 +21,24 @@ use Rattle.schema.proofs.Laws.{below-values}
 use Rattle.schema.proofs.Trees.{end-up, end-inside, end-after, child-inside}
 use Rattle.schema.proofs.Depth.{nested, child-before}
 use Rattle.schema.proofs.Known.{typed-whole, typed-shape}
-use Rattle.array_data.specs.Tables.{Tables, place, dataBuffer}
+use Rattle.array_data.specs.Tables.{Tables}
 use Rattle.array_data.specs.Typed.{runEndNode, Tree, tablesFrom, bodyOf}
 use Rattle.array_data.specs.type_tree.Lent.{kindAt}
 use Rattle.array_data.proofs.type_tree.Shaped.{Shaped, of-plain, of-view, of-list, of-lists, of-sparse, of-dense, of-run, of-dictionary, shaped, at-run}
 use Rattle.array_data.proofs.type_tree.Lent.{first-child, second-child}
 use Rattle.array_data.specs.lent_tables.Lent.{tables}
 use Rattle.array_data.proofs.lent_tables.Laws.{and-left, and-right}
-use Rattle.plan.specs.dictionaries.Sources.{arrayAt, dictAt, ofStrings, capped}
-use Rattle.plan.proofs.dictionaries.Laws.{place-from}
+use Rattle.plan.specs.dictionaries.Sources.{arrayAt, ofStrings, capped}
 use Rattle.plan.proofs.dictionaries.Typed.{columnAt, dictionaryAt, keeps-typed, shared-typed, start-typed}
 use Rattle.array_data.proofs.node_words.Laws.{zeroth, first-word, second-word}
 use Rattle.walk.specs.State.{word, codeOf, dictionaryOf, endOf, keepsOf, baseOf}
-use Rattle.plan.specs.Plan.{flag, holder, parentOf, asked, isEnds, keepWord, buffersUpTo, joinedWord, baseWord, planned}
+use Rattle.plan.specs.Plan.{flag, holder, parentOf, asked, isEnds, keepWord, planned}
 use Rattle.array_data.specs.Sources.{sourceCount, firstOf, nodesOf}
 use Rattle.plan.proofs.Laws.{holds, holds-not}
 use Rattle.plan.proofs.Codes.{is-false, no-dictionary, run-not-fixed, view-not-fixed}
 use Rattle.plan.proofs.Words.{cond-le, word-is, keep-is, joined-is, base-is}
 use Rattle.columnar.specs.Test.{same}
-use Rattle.model.proofs.Names.{keysFit}
+use Rattle.plan.proofs.Bases.{view-word, keys-word, keys-joined, start-fits, Named, buffers-typed}
 
 -- ---- a code is a byte
 
@@ -183,73 +179,6 @@ module _ (x : Tables) (sources : List ℕ) (m : ℕ) (keep : Bool) (plan : List 
     child-word i r d p =
         let e : parentOf plan (suc j) ≡ i = sym (ap (parentOf plan) q) ∙ p in
         rw (q, r, d, e)
-
--- ---- bases by a node's code
-
-module _ (x : Tables) (sources : List ℕ) (m : ℕ) (plan : List ℕ) where
-  view-word : (s i : ℕ) → isView (codeOf plan i) ≡ true → baseWord x sources m plan s i ≡ buffersUpTo (x .places) sources i s
-  unfolding baseWord
-  view-word s i v = rw v
-
-  keys-word : (s i : ℕ) (strings : Bool) → isView (codeOf plan i) ≡ false → (dictionaryOf plan i ≡ 0 → ⊥) → isString (codeOf plan (suc i)) ≡ strings
-      → baseWord x sources m plan s i ≡ capped (startOfKeys m (dictAt x sources strings (suc i)) s)
-  unfolding baseWord
-  keys-word s i strings v d q = rw (v, ne-eqb (dictionaryOf plan i) 0 d, q)
-
-  keys-joined : (i : ℕ) (strings : Bool) → (dictionaryOf plan i ≡ 0 → ⊥) → isString (codeOf plan (suc i)) ≡ strings
-      → joinedWord x sources m plan i ≡ flag (not (shared m (dictAt x sources strings (suc i))))
-  unfolding joinedWord
-  keys-joined i strings d q = rw (ne-eqb (dictionaryOf plan i) 0 d, q)
-
-limit-small : (c : Number) → limit c ≤ 2 ^ 64
-limit-small i8 = omega arith
-limit-small u8 = omega arith
-limit-small i16 = omega arith
-limit-small u16 = omega arith
-limit-small i32 = omega arith
-limit-small u32 = omega arith
-limit-small i64 = omega arith
-limit-small u64 = omega arith
-limit-small f32 = omega arith
-limit-small f64 = omega arith
-
--- a start that fits a key is a number of 64 bits
-start-fits : {P : Type 0} (c : Number) (m : ℕ) (ds : ℕ → Dictionary P) (j s : ℕ) → s < j → allKeysFit c m j ds ≡ true → capped (startOfKeys m ds s) ≡ startOfKeys m ds s
-start-fits c m ds zero s h f = absurd (omega arith)
-start-fits c m ds (suc j) s h f = go (eqb s j) refl (λ l. start-fits c m ds j s l (and-left (allKeysFit c m j ds) (keysFit c m ds j) f))
-  where
-    go : (b : Bool) → eqb s j ≡ b → (s < j → capped (startOfKeys m ds s) ≡ startOfKeys m ds s) → capped (startOfKeys m ds s) ≡ startOfKeys m ds s
-    go true e g =
-        let last = and-right (allKeysFit c m j ds) (keysFit c m ds j) f in
-        let low = ltb-true (startOfKeys m ds j) (limit c) (and-right (ltb (startOfKeys m ds j + ds j .values .len - 1) (limit c)) (ltb (startOfKeys m ds j) (limit c)) last) in
-        let q = ap (startOfKeys m ds) (eqb-true s j e) in
-        let top = limit-small c in
-        omega arith
-    go false e g = let d = eqb-false s j e in g (omega arith)
-
-length-seg : {A : Type 0} (f : ℕ → A) (a k : ℕ) → length (seg f a k) ≡ k
-length-seg f a zero = refl
-length-seg f a (suc k) = ap suc (length-seg f (suc a) k)
-
-module _ (tree : Tree) (y : Tables) (sources : List ℕ) (i : ℕ) where
-  abbrev viewsAt : ℕ → Views
-  viewsAt j = bodyOf tree (tablesFrom y (firstOf sources j)) tView i
-
-  -- "at most 32 data buffers per view node and source"
-  abbrev pub Named : ℕ → Type 0
-  Named s = (j : ℕ) → j < s → getD (y .places) (9 * (firstOf sources j + i) + 8) 0 ≤ 33
-
-  buffers-typed : (s : ℕ) → Named s → buffersUpTo (y .places) sources i s ≡ length (buffersBefore viewsAt s)
-  unfolding buffersUpTo
-  buffers-typed zero h = refl
-  buffers-typed (suc s) h =
-      let z = tablesFrom y (firstOf sources s) in
-      let here : length (viewsAt s .buffers) ≡ getD (y .places) (9 * (firstOf sources s + i) + 8) 0 =
-      length-seg (dataBuffer z) (place z i 7) (place z i 8) ∙ place-from y (firstOf sources s) i 8 in
-      let more = length-append (buffersBefore viewsAt s) (viewsAt s .buffers) in
-      let before = buffers-typed s (λ j l. h j (omega arith)) in
-      let all = min-eq-left (h s (omega arith)) in
-      omega arith
 
 -- ---- THE PLANNED STATE OF A TREE THAT PASSES
 

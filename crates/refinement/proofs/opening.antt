@@ -1,4 +1,5 @@
 -- The laws of `opening`.
+pub mod Below
 pub mod Laid
 pub mod Taken
 pub mod Kept

@@ -8,14 +8,10 @@ use Rattle.walk.specs.Copy.{copyWalk}
 use Rattle.walk.specs.Nulls.{nullWalk}
 use Rattle.refinement.specs.walk_is_model.Holds.{Worded}
 use Rattle.refinement.specs.log_in_room.Room.{AllBelow, AllUsed}
-use Rattle.refinement.specs.log_in_room.Reach.{Closed, UsedAt, Typed, typed, Among, Free, Tabled}
+use Rattle.refinement.specs.log_in_room.Reach.{UsedAt, Typed, typed, Among, Free, Tabled}
 use Rattle.refinement.proofs.log_in_room.Copies.{used-copies}
 use Rattle.refinement.proofs.log_in_room.Fills.{used-nulls}
 use Rattle.refinement.proofs.log_in_room.Closure.{closed-free}
-
--- all nodes: what the words alone say
-pub closed-all : (plan : List ℕ) → Closed plan (λ j. Unit {0}) (λ j. Unit {0})
-closed-all plan = record { own = λ i u. tt; item = λ i u h. tt; child = λ i k u h c. tt; ends = λ i u h. tt; values = λ i u h. tt }
 
 module _ (x : Join) (k : ℕ) (t : Ty) (i : ℕ) (worded : Worded (x .plan) k t i) (free : Free (x .plan) i) (table : Tabled (x .plan) (endOf (x .plan) i)) where
   -- a buffer of a node of the type, its dictionaries' values aside

@@ -163,10 +163,6 @@ module _ (formats schema sources : List ℕ) (x : Tables) (keep gaps : Bool) (ok
             (means formats schema (firstOf sources 0) (Sources.nodesOf sources 0) ty low) (opened-plan .1),
       )
 
-  -- .. at the root
-  pub root-keeps-is : keepsOf plan 0 ≡ flag (keeps keep m ss)
-  root-keeps-is = kept .0
-
   -- o: neither 6 nor 8 stands
   module _ (o : openData t m (λ j. ss j .body) ≡ done tt) where
     -- WHAT IS ADDED TO KEYS AND BUFFER NUMBERS is what the model adds

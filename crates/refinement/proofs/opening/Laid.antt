@@ -8,18 +8,17 @@ use native.Mathlib.Omega.{arith}
 use lib.ListN.{length, getD}
 use lib.Dec.{leb, ltb, eqb}
 use borrow.Author.Tests.{eqb-true, eqb-false, leb-true, leb-false, le-leb, lt-ltb, ne-eqb, eq-eqb}
-use Rattle.columnar.specs.Types.{Number, fixed, string}
 use Rattle.schema.specs.formats.Code.{isFixed, isView, isListView, isList, isRunEnd, widthOf}
-use Rattle.schema.specs.Tree.{dictionary, below, childAt, dueFrom, whole, idsOf, shape, ceilings, typed}
+use Rattle.schema.specs.Tree.{dictionary, below, childAt, whole, idsOf, shape, ceilings, typed}
 use Rattle.schema.specs.Tree as schemaTree
 use Rattle.schema.proofs.Trees.{end-inside, end-after, child-inside, children-end}
 use Rattle.schema.proofs.Depth as depths
 use Rattle.schema.proofs.Known.{typed-whole, typed-shape, within-nodes}
 use Rattle.array_data.specs.Tables.{Tables}
-use Rattle.array_data.specs.Typed.{NodeKind, fixedNode, stringNode, viewNode, listViewNode, listNode, sparseNode, denseNode, runEndNode, dictionaryNode}
+use Rattle.array_data.specs.Typed.{NodeKind, fixedNode, stringNode, viewNode, listViewNode, listNode, runEndNode, dictionaryNode}
 use Rattle.array_data.specs.type_tree.Lent.{kindAt}
 use Rattle.array_data.proofs.type_tree.Ids.{both}
-use Rattle.array_data.proofs.type_tree.Shaped.{Shaped, of-plain, of-view, of-list, of-lists, of-sparse, of-dense, of-run, of-dictionary, shaped, at-fixed, at-keys, at-string, at-view, at-list, at-lists, at-run}
+use Rattle.array_data.proofs.type_tree.Shaped.{shaped, at-fixed, at-keys, at-string, at-view, at-list, at-lists, at-run}
 use Rattle.array_data.proofs.type_tree.Lent.{first-child, second-child, some-node}
 use Rattle.refinement.specs.plan_is_type.Planted.{Planted}
 use Rattle.refinement.proofs.plan_is_type.Codes.{Coded, low-code, shape-admitted, no-dictionary}
@@ -40,43 +39,7 @@ use Rattle.plan.proofs.Words.{plan-length, word-is, keep-is, parts-are, sources
 use Rattle.refinement.specs.orders.Sound.{nestedIn, endsSound, kindSound, nodeSound, planSound}
 use Rattle.refinement.proofs.orders.Cover.{Laid}
 use Rattle.refinement.proofs.orders.Placed.{placed-by}
-
--- ---- what stands below a node of a kind
-
-module _ (formats schema : List ℕ) (first i : ℕ) where
-  -- below a run-end node: the run ends are numbers
-  record Ends : Type 0 where
-    number : Number
-    kind : kindAt formats schema first (suc i) ≡ fixedNode number
-    two : below schema first i ≡ 2
-    none-below : below schema first (suc i) ≡ 0
-
-  abbrev Next : NodeKind → Type 0
-  Next (fixedNode m) = below schema first i ≡ 0
-  Next (stringNode w) = below schema first i ≡ 0
-  Next viewNode = below schema first i ≡ 0
-  Next (listViewNode w) = below schema first i ≡ 1
-  Next (listNode w) = below schema first i ≡ 1
-  Next (sparseNode ids) = Unit {0}
-  Next (denseNode ids) = Unit {0}
-  Next (runEndNode w) = Ends
-  Next (dictionaryNode m) = (below schema first i ≡ 1) × (below schema first (suc i) ≡ 0)
-
-  next-of : Shaped formats schema first i → Next (kindAt formats schema first i)
-  next-of (of-plain (fixed m) e z d) = subst Next (sym e) z
-  next-of (of-plain (string w) e z d) = subst Next (sym e) z
-  next-of (of-view e z) = subst Next (sym e) z
-  next-of (of-list w e z d) = subst Next (sym e) z
-  next-of (of-lists w e z d) = subst Next (sym e) z
-  next-of (of-sparse ids e z d o) = subst Next (sym e) tt
-  next-of (of-dense ids e z d o) = subst Next (sym e) tt
-  next-of (of-run m e z e1 z1 d) = subst Next (sym e) (record { number = m; kind = e1; two = z; none-below = z1 })
-  next-of (of-dictionary m q e z e1 z1 g d) = subst Next (sym e) (z, z1)
-
-whole-end : (schema : List ℕ) (first n : ℕ) → whole schema first n ≡ true → schemaTree.endOf schema first n 0 ≡ n
-unfolding whole
-whole-end schema first n w =
-    eqb-true (schemaTree.endOf schema first n 0) n (both (leb 1 n && eqb (dueFrom schema first n 1 0) 0) (eqb (schemaTree.endOf schema first n 0) n) w .1)
+use Rattle.refinement.proofs.opening.Below.{Ends, Next, next-of, whole-end}
 
 -- ---- A plan that has the words of a type tree
 

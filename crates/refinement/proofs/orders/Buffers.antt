@@ -167,14 +167,8 @@ module _ (plan : List ℕ) where
 
   -- .. and at one that is no dictionary's values
 
-  pub part-buffer : (i k : ℕ) → Free plan i → hasPart plan i (suc k) ≡ true → k < bufferCount (codeOf plan i)
-  part-buffer i k f = copied-buffer i k (copied-free i f)
-
   pub buffer-part : (i k : ℕ) → Free plan i → k < bufferCount (codeOf plan i) → hasPart plan i (suc k) ≡ true
   buffer-part i k f = buffer-copied i k (copied-free i f)
-
-  pub part-bits : (i : ℕ) → Free plan i → hasPart plan i 0 ≡ true → (keepsOf plan i ≡ 0 → ⊥) × (codeOf plan i < 21)
-  part-bits i f = copied-bits i (copied-free i f)
 
   pub bits-part : (i : ℕ) → Free plan i → (keepsOf plan i ≡ 0 → ⊥) → codeOf plan i < 21 → hasPart plan i 0 ≡ true
   bits-part i f = bits-copied i (copied-free i f)
