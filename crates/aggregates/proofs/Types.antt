@@ -12,12 +12,14 @@ use Rattle.columnar.specs.Types.{Number, width, Plain, fixed, string, Ty, tPlai
 use Rattle.columnar.specs.Formed.{RunWidth}
 use Rattle.columnar.specs.Wider.{integer}
 use Rattle.schema.specs.formats.Code.{between, isInteger, isFixed, isString, isView, isListView, isList, isUnion, isSparse, isRunEnd, widthOf}
-use Rattle.schema.specs.formats.Types.{numberOf}
+use Rattle.schema.specs.formats.Types.{numberOf, numberOr}
 use Rattle.schema.specs.Tree.{children, dictionary, below, bare, childForEach, codeOf, idsOf, valuesShape, endsShape, leafShape, keysShape, listShape, unionShape, runShape, shape, typed}
 use Rattle.schema.proofs.Trees.{child-inside}
 use Rattle.schema.proofs.Known.{typed-whole, typed-shape}
-use Rattle.array_data.specs.Typed.{NodeKind, fixedNode, stringNode, viewNode, listViewNode, listNode, sparseNode, denseNode, runEndNode, dictionaryNode, Tree}
-use Rattle.array_data.specs.type_tree.Lent.{numberOr, kindAt, treeOf, tyAs, tyOf, typeOf}
+use Rattle.array_data.proofs.type_tree.ByKind.{tyAs, type-by, type-as}
+use Rattle.array_data.specs.NodeKinds.{NodeKind, fixedNode, stringNode, viewNode, listViewNode, listNode, sparseNode, denseNode, runEndNode, dictionaryNode, kindAt}
+use Rattle.array_data.specs.Typed.{Tree}
+use Rattle.array_data.specs.type_tree.Lent.{treeOf, tyOf, typeOf}
 use Rattle.array_data.proofs.type_tree.Lent.{first-child, second-child, some-node}
 use Rattle.array_data.proofs.type_tree.Shaped.{Shaped, of-plain, of-view, of-list, of-lists, of-sparse, of-dense, of-run, of-dictionary, shaped, five, later, plainKind, integer-fixed, at-fixed, at-keys, at-string, at-view, at-list, at-lists, at-union, at-run}
 use Rattle.array_data.proofs.lent_tables.Laws.{and-left, and-right}
@@ -262,9 +264,10 @@ module _ (formats schema : List ℕ) (first n : ℕ) (t : typed formats schema f
 
   -- the type by the codes
   pub whole-by : wholeType (typeOf formats schema first n) ≡ cond (isRunEnd (code formats schema first 0)) values-whole rows-whole
-  unfolding tyOf
   whole-by =
-      type-whole (treeOf formats schema first n) (tyOf (treeOf formats schema first n) 7) (kindAt formats schema first 0) 0
+      ap wholeType (type-by (treeOf formats schema first n) 7 0)
+      ∙ type-whole (treeOf formats schema first n) (tyOf (treeOf formats schema first n) 7) (kindAt formats schema first 0) 0
+      ∙ ap (λ u. cond (isRun (kindAt formats schema first 0)) (wholePlain u) (wholeKind (kindAt formats schema first 0))) (type-by (treeOf formats schema first n) 6 2)
       ∙ go (isRunEnd (code formats schema first 0)) refl
     where
       root-says : Says formats schema first 0
@@ -290,14 +293,14 @@ module _ (formats schema : List ℕ) (first n : ℕ) (t : typed formats schema f
       go false = code-test (code formats schema first 0) (single formats schema first 0)
 
   pub type-plain : isRunEnd (code formats schema first 0) ≡ false → rows-whole ≡ true → typeOf formats schema first n ≡ tPlain (fixed (numberAt (code formats schema first 0)))
-  unfolding tyOf
   type-plain e h =
       let i = and-left (isInteger (code formats schema first 0)) (single formats schema first 0) h in
-      rw (at-fixed formats schema first 0 (integer-fixed (code formats schema first 0) i) (and-right (isInteger (code formats schema first 0)) (single formats schema first 0) h))
+      type-as (treeOf formats schema first n) 7 0 (at-fixed formats schema first 0 (integer-fixed (code formats schema first 0) i) (and-right (isInteger (code formats schema first 0)) (single formats schema first 0) h))
 
   pub type-runs : isRunEnd (code formats schema first 0) ≡ true → values-whole ≡ true
       → typeOf formats schema first n ≡ tRunEnd (widthOf (code formats schema first 1)) (tPlain (fixed (numberAt (code formats schema first 2))))
-  unfolding tyOf
   type-runs e h =
       let i = and-left (isInteger (code formats schema first 2)) (single formats schema first 2) h in
-      rw (run-over e .kind, at-fixed formats schema first 2 (integer-fixed (code formats schema first 2) i) (and-right (isInteger (code formats schema first 2)) (single formats schema first 2) h))
+      type-as (treeOf formats schema first n) 7 0 (run-over e .kind)
+      ∙ ap (tRunEnd (widthOf (code formats schema first 1)))
+      (type-as (treeOf formats schema first n) 6 2 (at-fixed formats schema first 2 (integer-fixed (code formats schema first 2) i) (and-right (isInteger (code formats schema first 2)) (single formats schema first 2) h)))

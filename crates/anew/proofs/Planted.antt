@@ -12,8 +12,9 @@ use Rattle.schema.proofs.Known.{within-nodes}
 use Rattle.schema.specs.Tree as trees
 use Rattle.columnar.specs.Types.{Plain, fixed, string}
 use Rattle.schema.specs.formats.Code.{isFixed, isString, widthOf}
-use Rattle.array_data.specs.Typed.{NodeKind, MeansPlain}
-use Rattle.array_data.specs.type_tree.Lent.{kindAt, treeOf, typeOf}
+use Rattle.array_data.specs.NodeKinds.{NodeKind, kindAt}
+use Rattle.array_data.specs.Typed.{MeansPlain}
+use Rattle.array_data.specs.type_tree.Lent.{treeOf, typeOf}
 use Rattle.array_data.proofs.type_tree.Lent.{means, formed}
 use Rattle.walk.specs.State.{codeOf, endOf, keepsOf}
 use Rattle.refinement.specs.walk_is_model.Holds.{WordedPlain, Worded}

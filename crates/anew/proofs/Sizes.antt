@@ -6,7 +6,7 @@ use Prim.Native.Nat.{ℕ, zero, suc, _+_, _*_, _≤_, _<_}
 use native.Mathlib.Omega.{arith}
 use lib.ListN.{length, drop, length-take, length-drop}
 use lib.Dec.{T}
-use Rattle.columnar.specs.Types.{Number, i8, u8, i16, u16, i32, u32, i64, u64, f32, f64, width, half, fixed, string}
+use Rattle.columnar.specs.Types.{Number, int, uint, w1, w2, w4, w8, f32, f64, width, half, fixed, string}
 use Rattle.columnar.specs.Formed.{OffsetWidth, RunWidth}
 use Rattle.columnar.specs.Array.{Array}
 use Rattle.columnar.specs.Plain.{OffsetsRule, empty, full, PlainRule}
@@ -20,7 +20,8 @@ use Rattle.columnar.specs.Test.{plainTest, viewTest, listViewTest, listTest, sp
 use Rattle.columnar.proofs.Test.{Agrees, every-out, array-agrees, plain-agrees, view-agrees, list-view-agrees, list-agrees, sparse-agrees, dense-agrees, run-end-agrees, dictionary-agrees}
 use Rattle.array_data.specs.Tables.{Tables, part, lengthOf, offsetOf, place, firstBuffer, secondBuffer, dataBuffers, arrayWith, held, validIn}
 use Rattle.array_data.specs.Rules.{childOf, oneIn, twoIn, buffersIn}
-use Rattle.array_data.specs.Typed.{NodeKind, Tree, nodeOf, kindRule, nodeRule, sourceRule}
+use Rattle.array_data.specs.NodeKinds.{NodeKind}
+use Rattle.array_data.specs.Typed.{Tree, nodeOf, kindRule, nodeRule, sourceRule, kindIn}
 use Rattle.array_data.specs.type_tree.Lent.{treeOf}
 use Rattle.array_data.proofs.type_tree.Shaped.{Shaped, of-plain, of-view, of-list, of-lists, of-sparse, of-dense, of-run, of-dictionary, shaped}
 use Rattle.schema.specs.Tree.{typed}
@@ -40,14 +41,14 @@ part-short body at size = omega (arith, length-take size (drop at body), length-
 -- ---- by the widths of entries
 
 fixed-fits : (m : Number) (n bytes most : ℕ) → n * width m ≤ bytes → bytes ≤ most → n ≤ most
-fixed-fits i8 n bytes most h l = omega arith
-fixed-fits u8 n bytes most h l = omega arith
-fixed-fits i16 n bytes most h l = omega arith
-fixed-fits u16 n bytes most h l = omega arith
-fixed-fits i32 n bytes most h l = omega arith
-fixed-fits u32 n bytes most h l = omega arith
-fixed-fits i64 n bytes most h l = omega arith
-fixed-fits u64 n bytes most h l = omega arith
+fixed-fits (int w1) n bytes most h l = omega arith
+fixed-fits (uint w1) n bytes most h l = omega arith
+fixed-fits (int w2) n bytes most h l = omega arith
+fixed-fits (uint w2) n bytes most h l = omega arith
+fixed-fits (int w4) n bytes most h l = omega arith
+fixed-fits (uint w4) n bytes most h l = omega arith
+fixed-fits (int w8) n bytes most h l = omega arith
+fixed-fits (uint w8) n bytes most h l = omega arith
 fixed-fits f32 n bytes most h l = omega arith
 fixed-fits f64 n bytes most h l = omega arith
 
@@ -79,7 +80,7 @@ module _ (formats schema : List ℕ) (first n : ℕ) (y : Tables) (short : lengt
     abbrev most : ℕ
     most = length (y .body)
 
-    rule-of : (k : NodeKind) → t .kind i ≡ k → T (kindRule t y k i)
+    rule-of : (k : NodeKind) → kindIn t i ≡ k → T (kindRule t y k i)
     rule-of k e = subst (λ k. T (kindRule t y k i)) e (every-out (nodeRule t y) n rule i l)
 
     by-sum : off + len ≤ most → len ≤ ceiling

@@ -6,7 +6,7 @@ use Prim.Native.Nat.{ℕ}
 use Rattle.columnar.specs.Types.{Number}
 use Rattle.schema.specs.Tree.{flag, dictionary, endOf, codeOf}
 use Rattle.array_data.specs.node_words.Words.{childId}
-use Rattle.array_data.specs.Typed.{NodeKind, fixedNode, sparseNode, denseNode, dictionaryNode}
+use Rattle.array_data.specs.NodeKinds.{NodeKind, fixedNode, sparseNode, denseNode, dictionaryNode}
 
 -- the ids of a union; none where the format has none
 abbrev pub idsOr : Option (List ℕ) → List ℕ

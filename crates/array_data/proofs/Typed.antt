@@ -15,7 +15,9 @@ use Rattle.columnar.specs.Array.{item, ok}
 use Rattle.columnar.proofs.Test.{test-sound, every-out, every-in}
 use Rattle.array_data.specs.Tables.{Tables, lengthOf, offsetOf, validOf, firstBuffer, secondBuffer, dataBuffers, arrayWith, held, validIn}
 use Rattle.array_data.specs.Rules.{oneIn, twoIn, buffersIn}
-use Rattle.array_data.specs.Typed.{NodeKind, fixedNode, stringNode, viewNode, listViewNode, listNode, sparseNode, denseNode, runEndNode, dictionaryNode, Tree, nodeOf, allOf, Is, MeansPlain, MeansEnds, Means, plainBody, bodyOf, columnOf, kindRule, nodeRule, sourceRule, placedAs, placed, nodes}
+use Rattle.array_data.proofs.type_tree.ByKind.{placedAs, placed-out}
+use Rattle.array_data.specs.NodeKinds.{NodeKind, fixedNode, stringNode, viewNode, listViewNode, listNode, sparseNode, denseNode, runEndNode, dictionaryNode}
+use Rattle.array_data.specs.Typed.{Tree, nodeOf, allOf, Is, MeansPlain, MeansEnds, Means, plainBody, bodyOf, columnOf, kindRule, nodeRule, sourceRule, placed, nodes}
 
 and-in : (a b : Bool) → T a → T b → T (a && b)
 and-in true b p q = q
@@ -181,7 +183,7 @@ module _ (t : Tree) (x : Tables) (lies : (j : ℕ) → j < t .count → T (place
   rule-from : (k : NodeKind) (i j : ℕ) → j ≡ i → Is t i k → (T (placedAs t x k i) → T (kindRule t x k i)) → T (nodeRule t x j)
   rule-from k i j e h f =
       subst (λ z. T (nodeRule t x z)) (sym e)
-      (subst (λ k. T (kindRule t x k i)) (sym (h .1)) (f (subst (λ k. T (placedAs t x k i)) (h .1) (lies i (h .0)))))
+      (subst (λ k. T (kindRule t x k i)) (sym (h .1)) (f (subst (λ k. T (placedAs t x k i)) (h .1) (placed-out t x i (lies i (h .0))))))
 
   plain-complete : (p : Plain) (i j : ℕ) → j ≡ i → MeansPlain t p i → T (plainHere t x p i) → T (nodeRule t x j)
   plain-complete (fixed n) i j z h e = rule-from (fixedNode n) i j z h (λ p. and-in (oneIn x i) (plainHere t x (fixed n) i) p e)

@@ -2,6 +2,7 @@
 pub mod Tables
 pub mod Sources
 pub mod Rules
+pub mod NodeKinds
 pub mod Typed
 pub mod type_tree
 pub mod lent_tables

@@ -1,6 +1,6 @@
 -- The type that a node of a tree stands for, and the column that lent tables describe there. Assumes nothing.
 use mathlib.Core.Path.{_≡_}
-use mathlib.Core.Bool.{Bool, true, false, cond, _&&_}
+use mathlib.Core.Bool.{Bool, true, false, not, cond, _&&_, _||_}
 use mathlib.Core.List.{List, [], _∷_, _++_, List·Memᴰ}
 use Prim.Native.Nat.{ℕ, zero, suc, _*_, _<_}
 use lib.ListN.{drop}
@@ -9,33 +9,36 @@ use Rattle.columnar.specs.Types.{Number, width, Plain, fixed, string, Ty, tPlai
 use Rattle.columnar.specs.Array.{Array, nullCount}
 use Rattle.columnar.specs.Plain.{PlainBody}
 use Rattle.columnar.specs.Reading.{Body, Column}
-use Rattle.columnar.specs.Test.{every}
-use Rattle.array_data.specs.Tables.{Tables, place, firstBuffer, secondBuffer, dataBuffers, arrayWith, held, validIn}
-use Rattle.array_data.specs.Rules.{oneIn, twoIn, buffersIn, fixedRule, stringRule, viewRule, listViewRule, listRule, sparseRule, denseRule, runEndRule, dictionaryRule}
+use Rattle.columnar.specs.Test.{every, onlyIf}
+use Rattle.schema.specs.formats.Code.{isString, isView, isListView, isRunEnd}
+use Rattle.schema.specs.Tree.{nullable, endOf, codeOf}
+use Rattle.array_data.specs.Tables.{Tables, place, firstBuffer, secondBuffer, dataBuffers, arrayWith, held, inBody, validIn}
+use Rattle.array_data.specs.NodeKinds.{NodeKind, fixedNode, stringNode, viewNode, listViewNode, listNode, sparseNode, denseNode, runEndNode, dictionaryNode, kindAt}
+use Rattle.array_data.specs.Rules.{buffersIn, fixedRule, stringRule, viewRule, listViewRule, listRule, sparseRule, denseRule, runEndRule, dictionaryRule}
 
--- what a node's format says
-pub data NodeKind : Type 0 where
-  fixedNode : Number → NodeKind
-  stringNode : ℕ → NodeKind
-  viewNode : NodeKind
-  listViewNode : ℕ → NodeKind
-  listNode : ℕ → NodeKind
-  sparseNode : List ℕ → NodeKind
-  denseNode : List ℕ → NodeKind
-  runEndNode : ℕ → NodeKind
-  dictionaryNode : Number → NodeKind
-
--- n nodes in depth-first order: what each is, whether it is nullable, and where its subtree ends
+-- a type tree (docs/FORMAT.md): `count` nodes in depth-first order, which stand in the schema from node `first` on
 pub record Tree : Type 0 where
+  pub formats : List ℕ
+  pub schema : List ℕ
+  pub first : ℕ
   pub count : ℕ
-  pub kind : ℕ → NodeKind
-  pub nullable : ℕ → Bool
-  pub end : ℕ → ℕ
+
+-- where node i's subtree ends
+abbrev pub subtreeEnd : Tree → ℕ → ℕ
+subtreeEnd t i = endOf (t .schema) (t .first) (t .count) i
+
+-- whether node i is nullable
+abbrev pub nullableIn : Tree → ℕ → Bool
+nullableIn t i = nullable (t .schema) (t .first) i
+
+-- its kind
+abbrev pub kindIn : Tree → ℕ → NodeKind
+kindIn t i = kindAt (t .formats) (t .schema) (t .first) i
 
 -- child number j of node i
 abbrev pub childNode : Tree → ℕ → ℕ → ℕ
 childNode t i zero = suc i
-childNode t i (suc j) = t .end (childNode t i j)
+childNode t i (suc j) = endOf (t .schema) (t .first) (t .count) (childNode t i j)
 
 -- which field has id c
 abbrev pub fieldOf : List ℕ → ℕ → ℕ
@@ -47,7 +50,7 @@ nodeOf t i ids c = childNode t i (fieldOf ids c)
 
 -- node i is one of the tree's, and of this kind
 abbrev pub Is : Tree → ℕ → NodeKind → Type 0
-Is t i k = (i < t .count) × (t .kind i ≡ k)
+Is t i k = (i < t .count) × (kindIn t i ≡ k)
 
 abbrev pub MeansPlain : Tree → Plain → ℕ → Type 0
 MeansPlain t (fixed n) i = Is t i (fixedNode n)
@@ -66,9 +69,9 @@ Means t tView i = Is t i viewNode
 Means t (tListView w u) i = Is t i (listViewNode w) × Means t u (suc i)
 Means t (tList w u) i = Is t i (listNode w) × Means t u (suc i)
 Means t (tSparse ids nullable f) i =
-    Is t i (sparseNode ids) × ((c : ℕ) → List·Memᴰ c ids → (nullable c ≡ t .nullable (nodeOf t i ids c)) × Means t (f c) (nodeOf t i ids c))
+    Is t i (sparseNode ids) × ((c : ℕ) → List·Memᴰ c ids → (nullable c ≡ nullableIn t (nodeOf t i ids c)) × Means t (f c) (nodeOf t i ids c))
 Means t (tDense ids nullable f) i =
-    Is t i (denseNode ids) × ((c : ℕ) → List·Memᴰ c ids → (nullable c ≡ t .nullable (nodeOf t i ids c)) × Means t (f c) (nodeOf t i ids c))
+    Is t i (denseNode ids) × ((c : ℕ) → List·Memᴰ c ids → (nullable c ≡ nullableIn t (nodeOf t i ids c)) × Means t (f c) (nodeOf t i ids c))
 Means t (tRunEnd w u) i = Is t i (runEndNode w) × MeansEnds t w (suc i) × Means t u (suc (suc i))
 Means t (tDictionary k p) i = Is t i (dictionaryNode k) × MeansPlain t p (suc i)
 
@@ -127,27 +130,21 @@ module _ (t : Tree) (x : Tables) where
   kindRule (dictionaryNode n) i = dictionaryRule x i n
 
   abbrev pub nodeRule : ℕ → Bool
-  nodeRule i = kindRule (t .kind i) i
+  nodeRule i = kindRule (kindIn t i) i
 
   -- THE SOURCE OBEYS: every node does
   abbrev pub sourceRule : Bool
   sourceRule = every nodeRule (t .count)
 
-  -- ---- what of a rule is about the lent memory: where the tables and buffers of a node lie
-
-  abbrev pub placedAs : NodeKind → ℕ → Bool
-  placedAs (fixedNode n) i = oneIn x i
-  placedAs (stringNode w) i = twoIn x i
-  placedAs viewNode i = oneIn x i && buffersIn x i
-  placedAs (listViewNode w) i = twoIn x i
-  placedAs (listNode w) i = oneIn x i
-  placedAs (sparseNode ids) i = oneIn x i
-  placedAs (denseNode ids) i = twoIn x i
-  placedAs (runEndNode w) i = held x i && validIn x i
-  placedAs (dictionaryNode n) i = oneIn x i
+  -- ---- what of the rules is about the lent memory: the tables have node i, and its validity and buffers lie in the body
 
   abbrev pub placed : ℕ → Bool
-  placed i = placedAs (t .kind i) i
+  placed i =
+      let code = codeOf (t .formats) (t .schema) (t .first) i in
+      held x i && validIn x i
+      && onlyIf (not (isRunEnd code)) (inBody x (place x i 3) (place x i 4))
+      && onlyIf (isString code || isListView code || eqb code 22) (inBody x (place x i 5) (place x i 6))
+      && onlyIf (isView code) (buffersIn x i)
 
   -- the nodes of a subtree
   abbrev pub nodes : Ty → ℕ → List ℕ

@@ -29,6 +29,7 @@ use Rattle.batch.proofs.Ends.{need-is}
 use Rattle.batch.proofs.Leaves.{maskFits, DataCuts, data-as, entries-cut, more-bytes}
 use Rattle.batch.proofs.Strings.{off, off-later, Fit, extended-fits, strings-cut, rises}
 use Rattle.batch.proofs.Alike.{lays}
+use Rattle.walk.proofs.Offsets.{string-is}
 
 pub pieces-add : (f : ℕ → List ℕ) (m s : ℕ) → pieces f (m + s) ≡ pieces f m ++ pieces (λ j. f (m + j)) s
 unfolding pieces
@@ -225,11 +226,11 @@ module _ (x : Join) (k : ℕ) where
 
     string-log : (slot n : ℕ) (c : List ℕ) → (n ≡ 0 → ⊥) → Fit x k w slot n (bytes c k)
         → copyString x k w slot n c .log ≡ put k 1 (suc (rows c k) * w) (offsetsOf slot n (bytes c k)) ∷ put k 2 (bytes c k) (charsOf slot n) ∷ []
-    unfolding copyString putString next wrote done need
+    unfolding putString next wrote done need
     string-log slot n c z h =
         let e : bytes c k + (O slot n - O slot 0) - bytes c k ≡ O slot n - O slot 0 = omega arith in
         let g : leb (place x k 5 + O slot 0 + (O slot n - O slot 0)) (length (x .body)) ≡ true = le-leb _ _ (h .chars) in
-        rw (ne-eqb n 0 z, extended-fits x k w slot n (bytes c k) h, h .offsets, e, g)
+        rw (string-is x k w slot n c, ne-eqb n 0 z, extended-fits x k w slot n (bytes c k) h, h .offsets, e, g)
 
     pub strings-log : DataLogs st true first (λ slot n c. copyString x k w slot n c) (strings-cut x k w st is big)
     unfolding strings-cut copyString done movedOffsets

@@ -20,6 +20,7 @@ use Rattle.batch.specs.Stretch.{neverFalls}
 use Rattle.batch.proofs.Ends.{Leaves, leaves-done, leaves-wrote, leaves-need, leaves-next, need-was, need-is}
 use Rattle.batch.proofs.Stretches.{and-left, and-right}
 use Rattle.batch.proofs.Leaves.{DataCuts, no-bytes}
+use Rattle.walk.proofs.Offsets.{string-is}
 
 -- offsets that never fall rise from any to any later one
 pub rises : (w : ℕ) (s : List ℕ) (from n : ℕ) → neverFalls w s from n ≡ true → (j i : ℕ) → j ≤ i → i ≤ n → entry w s from j ≤ entry w s from i
@@ -69,9 +70,9 @@ module _ (x : Join) (k w : ℕ) where
       rw (le-ltb (off slot n) (off slot 0) (h .up), le-ltb (largest w) b (h .small), le-ltb (largest w) (b + (off slot n - off slot 0)) (h .last))
 
   pub string-goes : (slot n : ℕ) (c : List ℕ) → (n ≡ 0 → ⊥) → Fit slot n (bytes c k) → Leaves (copyString x k w slot n c) (setBytes k (bytes c k + (off slot n - off slot 0)) c)
-  unfolding copyString putString
+  unfolding putString
   string-goes slot n c z h =
-      rw (ne-eqb n 0 z, extended-fits slot n (bytes c k) h)
+      rw (string-is x k w slot n c, ne-eqb n 0 z, extended-fits slot n (bytes c k) h)
       (leaves-need 12 c (h .offsets)
       (leaves-need 12 c (le-leb _ _ fits)
       (leaves-next _ (leaves-wrote _ c) (leaves-next _ (leaves-wrote _ c) (leaves-done _)))))
@@ -93,9 +94,9 @@ module _ (x : Join) (k w : ℕ) where
       record { offsets = r; up = ltb-false _ _ e; small = ltb-false _ _ f; last = ltb-false _ _ g; chars = omega arith }
 
   pub string-was : (slot n : ℕ) (c : List ℕ) → copyString x k w slot n c .ans ≡ 0 → (n ≡ 0 → ⊥) → Fit slot n (bytes c k)
-  unfolding copyString extended
+  unfolding extended
   string-was slot n c h z =
-      let g = rw (ne-eqb n 0 z) at h in
+      let g = rw (string-is x k w slot n c, ne-eqb n 0 z) at h in
       let r = need-was (rowsIn x (place x k 3) w slot (suc n)) 12 c _ (omega arith) g in
       put-was slot n c (ltb (off slot n) (off slot 0)) (ltb (largest w) (bytes c k)) (ltb (largest w) (bytes c k + (off slot n - off slot 0))) refl refl refl
       (rw (need-is 12 c _ r) at g) r

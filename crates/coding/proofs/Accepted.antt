@@ -13,14 +13,15 @@ use Rattle.columnar.specs.Array.{nullCount}
 use Rattle.columnar.specs.Reading.{Column, Source}
 use Rattle.columnar.proofs.Test.{every-out}
 use Rattle.schema.specs.formats.Code.{isFixed, isRunEnd, widthOf}
-use Rattle.schema.specs.formats.Types.{numberOf}
+use Rattle.schema.specs.formats.Types.{numberOf, numberOr}
 use Rattle.schema.specs.Tree.{dictionary, codeOf, ceilings, typed}
 use Rattle.schema.proofs.Known.{typed-whole}
 use Rattle.array_data.specs.Tables.{Tables, lengthOf, offsetOf, place, validOf, firstBuffer}
 use Rattle.array_data.specs.Rules.{oneIn, fixedRule}
-use Rattle.array_data.specs.Typed.{columnOf, tablesFrom, sourceRule, nodeRule, kindRule, fixedNode}
+use Rattle.array_data.specs.NodeKinds.{fixedNode}
+use Rattle.array_data.specs.Typed.{columnOf, tablesFrom, sourceRule, nodeRule, kindRule}
 use Rattle.array_data.specs.lent_tables.Lent.{tables}
-use Rattle.array_data.specs.type_tree.Lent.{numberOr, treeOf, tyOf, typeOf}
+use Rattle.array_data.specs.type_tree.Lent.{treeOf, typeOf}
 use Rattle.array_data.proofs.lent_tables.Laws.{and-left, and-right, first-in}
 use Rattle.array_data.proofs.type_tree.Lent.{some-node}
 use Rattle.array_data.proofs.type_tree.Shaped.{at-fixed, at-run}
@@ -34,6 +35,7 @@ use Rattle.aggregates.proofs.Types.{run-over}
 use Rattle.columns.specs.column_pair.Pair.{rangeIn}
 use Rattle.coding.specs.Encode.{plainAt, number, endWidth, runsOver, encodeOwn, plainColumn}
 use Rattle.coding.proofs.Tests.{chosen}
+use Rattle.array_data.proofs.type_tree.ByKind.{type-as}
 
 -- ---- what an accepted column has passed
 
@@ -128,14 +130,14 @@ due-is formats schema first target h =
 module _ (formats schema : List ℕ) (first : ℕ) where
   -- the type of a fixed-width column
   pub type-plain : (n : ℕ) → PlainIs formats schema first 0 → typeOf formats schema first n ≡ tPlain (fixed (numberOr (numberOf (codeOf formats schema first 0))))
-  unfolding tyOf
-  type-plain n h = rw (at-fixed formats schema first 0 (h .is-fixed) (h .alone))
+  type-plain n h = type-as (treeOf formats schema first n) 7 0 (at-fixed formats schema first 0 (h .is-fixed) (h .alone))
 
   -- .. of a run-end column
   pub type-runs : (n : ℕ) → isRunEnd (codeOf formats schema first 0) ≡ true → PlainIs formats schema first 2
       → typeOf formats schema first n ≡ tRunEnd (widthOf (codeOf formats schema first 1)) (tPlain (fixed (numberOr (numberOf (codeOf formats schema first 2)))))
-  unfolding tyOf
-  type-runs n r h = rw (at-run formats schema first 0 r, at-fixed formats schema first 2 (h .is-fixed) (h .alone))
+  type-runs n r h =
+      type-as (treeOf formats schema first n) 7 0 (at-run formats schema first 0 r)
+      ∙ ap (tRunEnd (widthOf (codeOf formats schema first 1))) (type-as (treeOf formats schema first n) 6 2 (at-fixed formats schema first 2 (h .is-fixed) (h .alone)))
 
 pub due-type : (formats schema : List ℕ) (first target : ℕ) → DueIs formats schema first target → typeOf formats schema target 3 ≡ tRunEnd (endWidth formats schema first target) (tPlain (fixed (number formats schema first target)))
 due-type formats schema first target d =

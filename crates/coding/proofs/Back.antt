@@ -10,11 +10,11 @@ use borrow.Author.Tests.{le-leb}
 use Rattle.columnar.specs.Row.{Row, seg}
 use Rattle.columnar.specs.Types.{Number, fixed, tPlain, tRunEnd}
 use Rattle.columnar.specs.Reading.{Column, read, readAll}
-use Rattle.schema.specs.formats.Types.{numberOf}
+use Rattle.schema.specs.formats.Types.{numberOf, numberOr}
 use Rattle.schema.specs.Tree.{codeOf}
 use Rattle.array_data.specs.Tables.{Tables, lengthOf}
 use Rattle.array_data.specs.Typed.{columnOf, tablesFrom}
-use Rattle.array_data.specs.type_tree.Lent.{numberOr, treeOf, typeOf}
+use Rattle.array_data.specs.type_tree.Lent.{treeOf, typeOf}
 use Rattle.source_rules.specs.kinds.Rows.{tablesOf}
 use Rattle.source_rules.proofs.From.{length-from}
 use Rattle.columns.specs.Grounds.{ceiling, smallBody, columnGround}

@@ -9,8 +9,7 @@ use borrow.Author.Tests.{leb-true}
 use Rattle.columnar.specs.Types.{Number, width}
 use Rattle.columnar.specs.Formed.{RunWidth, two, four, eight}
 use Rattle.schema.specs.formats.Code.{isFixed, widthOf}
-use Rattle.schema.specs.formats.Types.{numberOf}
-use Rattle.array_data.specs.type_tree.Lent.{numberOr}
+use Rattle.schema.specs.formats.Types.{numberOf, numberOr}
 use Rattle.array_data.proofs.lent_tables.Laws.{and-left, and-right}
 use Rattle.aggregates.specs.patterns.Parts.{Sized}
 use Rattle.plan.specs.parts.Parts.{bufferCount}

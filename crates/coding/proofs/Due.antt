@@ -5,11 +5,11 @@ use mathlib.Core.List.{List}
 use Prim.Native.Nat.{ℕ}
 use lib.Dec.{eqb}
 use borrow.Author.Tests.{eq-eqb}
-use Rattle.columnar.specs.Types.{Number, i8, u8, i16, u16, i32, u32, i64, u64, f32, f64, fixed, string, Ty, tPlain, tView, tListView, tList, tSparse, tDense, tRunEnd, tDictionary}
+use Rattle.columnar.specs.Types.{Number, int, uint, w1, w2, w4, w8, f32, f64, fixed, string, Ty, tPlain, tView, tListView, tList, tSparse, tDense, tRunEnd, tDictionary}
 use Rattle.schema.specs.formats.Code.{isFixed, isRunEnd, widthOf}
-use Rattle.schema.specs.formats.Types.{numberOf}
+use Rattle.schema.specs.formats.Types.{numberOf, numberOr}
 use Rattle.schema.specs.Tree.{codeOf, ceilings, typed}
-use Rattle.array_data.specs.type_tree.Lent.{numberOr, typeOf}
+use Rattle.array_data.specs.type_tree.Lent.{typeOf}
 use Rattle.array_data.proofs.lent_tables.Laws.{and-left, and-right}
 use Rattle.coding.specs.Encode.{plainAt, runsOver}
 use Rattle.coding.specs.Expand.{runsOfPlain, plainOver}
@@ -19,14 +19,14 @@ use Rattle.coding.proofs.Types.{plain-exact, runs-exact}
 
 -- the code of a number's format
 abbrev codeFor : Number → ℕ
-codeFor i8 = 1
-codeFor u8 = 2
-codeFor i16 = 3
-codeFor u16 = 4
-codeFor i32 = 5
-codeFor u32 = 6
-codeFor i64 = 7
-codeFor u64 = 8
+codeFor (int w1) = 1
+codeFor (uint w1) = 2
+codeFor (int w2) = 3
+codeFor (uint w2) = 4
+codeFor (int w4) = 5
+codeFor (uint w4) = 6
+codeFor (int w8) = 7
+codeFor (uint w8) = 8
 codeFor f32 = 9
 codeFor f64 = 10
 
@@ -41,14 +41,14 @@ one-code c d f g e = sym (code-for c f) ∙ ap codeFor e ∙ code-for d g
 -- the number of a type of numbers, or of runs of numbers
 abbrev numberIn : Ty → Number
 numberIn (tPlain (fixed k)) = k
-numberIn (tPlain (string w)) = i8
-numberIn tView = i8
-numberIn (tListView w u) = i8
-numberIn (tList w u) = i8
-numberIn (tSparse ids nullable f) = i8
-numberIn (tDense ids nullable f) = i8
+numberIn (tPlain (string w)) = (int w1)
+numberIn tView = (int w1)
+numberIn (tListView w u) = (int w1)
+numberIn (tList w u) = (int w1)
+numberIn (tSparse ids nullable f) = (int w1)
+numberIn (tDense ids nullable f) = (int w1)
 numberIn (tRunEnd w u) = numberIn u
-numberIn (tDictionary k p) = i8
+numberIn (tDictionary k p) = (int w1)
 
 module _ (formats schema : List ℕ) (first n target : ℕ) (t : typed formats schema first n ≡ true) where
   -- THE ENCODER'S TARGET: whatever has the type of runs of the column's numbers passes (that nothing else does is `due-type`)

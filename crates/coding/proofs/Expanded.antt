@@ -134,7 +134,7 @@ module _ (formats schema lengths places buffers body : List ℕ) (first n target
     v = runColumn formats schema x first n target start end
 
     pub type-is : typeOf formats schema target 1 ≡ tPlain (fixed k)
-    type-is = type-plain formats schema target 1 (own .plain) ∙ ap (λ c. tPlain (fixed (Rattle.array_data.specs.type_tree.Lent.numberOr (Rattle.schema.specs.formats.Types.numberOf c)))) (own .same-code)
+    type-is = type-plain formats schema target 1 (own .plain) ∙ ap (λ c. tPlain (fixed (Rattle.schema.specs.formats.Types.numberOr (Rattle.schema.specs.formats.Types.numberOf c)))) (own .same-code)
 
     pub source : Source (tRunEnd (runWidth formats schema first target) (tPlain (fixed k))) v
     source =

@@ -19,9 +19,8 @@ use Rattle.columnar.specs.Reading.{Column}
 use Rattle.columnar.proofs.Items.{entry-end}
 use Rattle.model.proofs.Start.{no-null-in}
 use Rattle.schema.specs.formats.Code.{isFixed, widthOf}
-use Rattle.schema.specs.formats.Types.{numberOf}
+use Rattle.schema.specs.formats.Types.{numberOf, numberOr}
 use Rattle.array_data.specs.Tables.{Tables, part, lengthOf, offsetOf, place, validOf, firstBuffer, arrayWith}
-use Rattle.array_data.specs.type_tree.Lent.{numberOr}
 use Rattle.array_data.proofs.entries.Laws.{holds-in, item-at}
 use Rattle.anew.specs.runs.Runs.{okAt, bitsAt}
 use Rattle.anew.specs.runs.Picked.{cell}

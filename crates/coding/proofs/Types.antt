@@ -6,11 +6,13 @@ use Prim.Native.Nat.{ℕ, suc}
 use lib.Dec.{eqb}
 use Rattle.columnar.specs.Types.{Number, fixed, string, Ty, tPlain, tView, tListView, tList, tSparse, tDense, tRunEnd, tDictionary}
 use Rattle.schema.specs.formats.Code.{isInteger, isFixed, isString, isView, isListView, isList, isUnion, isRunEnd, widthOf}
-use Rattle.schema.specs.formats.Types.{numberOf}
+use Rattle.schema.specs.formats.Types.{numberOf, numberOr}
 use Rattle.schema.specs.Tree.{children, dictionary, bare, childForEach, codeOf, idsOf, valuesShape, endsShape, leafShape, keysShape, listShape, unionShape, runShape, shape, typed}
 use Rattle.schema.proofs.Known.{typed-shape}
-use Rattle.array_data.specs.Typed.{NodeKind, fixedNode, stringNode, viewNode, listViewNode, listNode, sparseNode, denseNode, runEndNode, dictionaryNode, Tree}
-use Rattle.array_data.specs.type_tree.Lent.{numberOr, kindOf, kindAt, treeOf, tyAs, tyOf, typeOf}
+use Rattle.array_data.proofs.type_tree.ByKind.{tyAs, type-by}
+use Rattle.array_data.specs.NodeKinds.{NodeKind, fixedNode, stringNode, viewNode, listViewNode, listNode, sparseNode, denseNode, runEndNode, dictionaryNode, kindOf, kindAt}
+use Rattle.array_data.specs.Typed.{Tree}
+use Rattle.array_data.specs.type_tree.Lent.{treeOf, tyOf, typeOf}
 use Rattle.array_data.proofs.type_tree.Shaped.{five, integer-fixed, at-run}
 use Rattle.array_data.proofs.lent_tables.Laws.{and-left, and-right}
 use Rattle.aggregates.proofs.Types.{run-over}
@@ -146,10 +148,10 @@ module _ (formats schema : List ℕ) (first i : ℕ) where
 
 -- "ALL BUT A FIXED-WIDTH COLUMN": the encoder's test of a typed column is whether its type is fixed-width
 pub plain-exact : (formats schema : List ℕ) (first n : ℕ) → typed formats schema first n ≡ true → plainAt formats schema first 0 ≡ fixedType (typeOf formats schema first n)
-unfolding tyOf
 plain-exact formats schema first n t =
     sym (kind-plain formats schema first 0 (typed-shape formats schema first n t 0 (root-in formats schema first n t)))
     ∙ sym (type-kind (treeOf formats schema first n) (tyOf (treeOf formats schema first n) 7) (kindAt formats schema first 0) 0)
+    ∙ sym (ap fixedType (type-by (treeOf formats schema first n) 7 0))
 
 -- ---- run-end columns
 
@@ -216,10 +218,12 @@ module _ (formats schema : List ℕ) (first i : ℕ) where
 
 -- "A RUN-END COLUMN OF FIXED-WIDTH VALUES": the expansion's test of a typed column is whether its type is one
 pub runs-exact : (formats schema : List ℕ) (first target n : ℕ) → typed formats schema first n ≡ true → runsOfPlain formats schema first target ≡ runsType (typeOf formats schema first n)
-unfolding tyOf runsOfPlain
+unfolding runsOfPlain
 runs-exact formats schema first target n t =
     go (isRunEnd (codeOf formats schema first 0)) refl
+    ∙ sym (ap (λ u. runKind (kindAt formats schema first 0) && fixedType u) (type-by (treeOf formats schema first n) 6 2))
     ∙ sym (runs-kind (treeOf formats schema first n) (tyOf (treeOf formats schema first n) 7) (kindAt formats schema first 0) 0)
+    ∙ sym (ap runsType (type-by (treeOf formats schema first n) 7 0))
   where
     root : shape formats schema first 0 ≡ true
     root = typed-shape formats schema first n t 0 (root-in formats schema first n t)

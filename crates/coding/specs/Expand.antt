@@ -8,12 +8,12 @@ use lib.Dec.{eqb}
 use Rattle.columnar.specs.Types.{Number, width, fixed, tPlain, tRunEnd}
 use Rattle.columnar.specs.Reading.{Column}
 use Rattle.schema.specs.formats.Code.{isRunEnd, widthOf}
-use Rattle.schema.specs.formats.Types.{numberOf}
+use Rattle.schema.specs.formats.Types.{numberOf, numberOr}
 use Rattle.schema.specs.Tree.{codeOf, ceilings, typed}
 use Rattle.array_data.specs.Tables.{Tables, part, lengthOf, offsetOf, place}
 use Rattle.array_data.specs.Typed.{columnOf, tablesFrom}
 use Rattle.array_data.specs.lent_tables.Lent.{tables}
-use Rattle.array_data.specs.type_tree.Lent.{numberOr, treeOf}
+use Rattle.array_data.specs.type_tree.Lent.{treeOf}
 use Rattle.columns.specs.column_pair.Pair.{rangeIn}
 use Rattle.slot_reader.specs.declared.run.RowRun.{RowRun}
 use Rattle.slot_reader.specs.declared.run.RowRun.the-variants as answer

@@ -9,7 +9,7 @@ use native.Mathlib.Omega.{arith}
 use lib.ListN.{length, getD}
 use lib.Dec.{T}
 use Rattle.columnar.specs.Row.{seg}
-use Rattle.columnar.specs.Types.{Number, i8, u8, i16, u16, i32, u32, i64, u64, f32, f64, width, half, limit, Plain, fixed, string, Ty, tPlain, tView, tListView, tList, tSparse, tDense, tRunEnd, tDictionary}
+use Rattle.columnar.specs.Types.{Number, int, uint, w1, w2, w4, w8, f32, f64, width, half, limit, Plain, fixed, string, Ty, tPlain, tView, tListView, tList, tSparse, tDense, tRunEnd, tDictionary}
 use Rattle.columnar.specs.Array.{Array, item, ok, Mask, Obeys}
 use Rattle.columnar.specs.Entries.{encodes}
 use Rattle.columnar.specs.Plain.{PlainBody, OffsetsTo, OffsetsRule, empty, full, PlainRule}
@@ -53,14 +53,14 @@ fits : {w w′ : ℕ} (v : ℕ) → w ≤ w′ → v < half w → v < 256 ^ w′
 fits v ww h = omega (arith, half-mono ww)
 
 limit-fits : (k : Number) → limit k ≤ 256 ^ width k
-limit-fits i8 = omega arith
-limit-fits u8 = omega arith
-limit-fits i16 = omega arith
-limit-fits u16 = omega arith
-limit-fits i32 = omega arith
-limit-fits u32 = omega arith
-limit-fits i64 = omega arith
-limit-fits u64 = omega arith
+limit-fits (int w1) = omega arith
+limit-fits (uint w1) = omega arith
+limit-fits (int w2) = omega arith
+limit-fits (uint w2) = omega arith
+limit-fits (int w4) = omega arith
+limit-fits (uint w4) = omega arith
+limit-fits (int w8) = omega arith
+limit-fits (uint w8) = omega arith
 limit-fits f32 = omega arith
 limit-fits f64 = omega arith
 

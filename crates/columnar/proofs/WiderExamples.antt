@@ -9,7 +9,7 @@ use lib.IntN.{pos}
 use lib.Dec.{T}
 use Rattle.number.specs.Number.{number, encode}
 use Rattle.columnar.specs.Row.{Row, null, whole, bytes, list, rows}
-use Rattle.columnar.specs.Types.{Ty, tPlain, tListView, tList, tSparse, tDense, tRunEnd, tDictionary, fixed, string, u8, i16, half}
+use Rattle.columnar.specs.Types.{Ty, tPlain, tListView, tList, tSparse, tDense, tRunEnd, tDictionary, fixed, string, int, uint, w1, w2, half}
 use Rattle.columnar.specs.Array.{item, bit}
 use Rattle.columnar.specs.Entries.{encodes}
 use Rattle.columnar.specs.Plain.{full}
@@ -90,7 +90,7 @@ text-wide-rows = sym (rows-same text-wider text-stored text-source) ∙ text-row
 abbrev run-ends : List ℕ
 run-ends = 1 ∷ 2 ∷ 5 ∷ 9 ∷ []
 
-abbrev runs : (w : ℕ) → Column (tRunEnd w (tPlain (fixed u8)))
+abbrev runs : (w : ℕ) → Column (tRunEnd w (tPlain (fixed (uint w1))))
 runs w =
     record {
       len = 8;
@@ -102,8 +102,8 @@ runs w =
       };
     }
 
-abbrev runs-wider : Wider (tRunEnd 2 (tPlain (fixed u8))) (tRunEnd 4 (tPlain (fixed u8)))
-runs-wider = wRunEnd 2 4 (omega arith) (wPlain (wFixed u8))
+abbrev runs-wider : Wider (tRunEnd 2 (tPlain (fixed (uint w1)))) (tRunEnd 4 (tPlain (fixed (uint w1))))
+runs-wider = wRunEnd 2 4 (omega arith) (wPlain (wFixed (uint w1)))
 
 runs-stored : Stored runs-wider (runs 2) (runs 4)
 unfolding item number encode
@@ -129,7 +129,7 @@ runs-stored =
 abbrev end2 : ℕ → ℕ
 end2 k = item 2 (encodes 2 run-ends) (1 + k)
 
-runs-source : Source (tRunEnd 2 (tPlain (fixed u8))) (runs 2)
+runs-source : Source (tRunEnd 2 (tPlain (fixed (uint w1)))) (runs 2)
 unfolding item number encode
 runs-source =
     record {
@@ -150,11 +150,11 @@ abbrev runs-have : List Row
 runs-have =
     whole (pos 65) ∷ whole (pos 66) ∷ whole (pos 66) ∷ whole (pos 66) ∷ whole (pos 67) ∷ whole (pos 67) ∷ whole (pos 67) ∷ whole (pos 67) ∷ []
 
-runs-rows : readAll (tRunEnd 2 (tPlain (fixed u8))) (runs 2) ≡ runs-have
+runs-rows : readAll (tRunEnd 2 (tPlain (fixed (uint w1)))) (runs 2) ≡ runs-have
 unfolding item number encode
 runs-rows = refl
 
-pub runs-wide-rows : readAll (tRunEnd 4 (tPlain (fixed u8))) (runs 4) ≡ runs-have
+pub runs-wide-rows : readAll (tRunEnd 4 (tPlain (fixed (uint w1)))) (runs 4) ≡ runs-have
 runs-wide-rows = sym (rows-same runs-wider runs-stored runs-source) ∙ runs-rows
 
 -- ---- a dictionary with keys u8 and i16, its values with offsets of 4 and 8 bytes: a null, "van", "stop". The key under the null is 250
@@ -163,14 +163,14 @@ runs-wide-rows = sym (rows-same runs-wider runs-stored runs-source) ∙ runs-row
 abbrev words : (w : ℕ) → Column (tPlain (string w))
 words w = record { len = 2; off = 0; valid = none; body = record { offsets = encodes w (0 ∷ 3 ∷ 7 ∷ []); chars = vanstop } }
 
-abbrev narrow : ℕ → Column (tDictionary u8 (string 4))
+abbrev narrow : ℕ → Column (tDictionary (uint w1) (string 4))
 narrow at = record { len = 3; off = 1; valid = some (13 ∷ []); body = record { keys = encodes 1 (9 ∷ 250 ∷ 0 ∷ 1 ∷ []); values = words 4; starts = at ∷ 100 ∷ [] } }
 
-abbrev wide : ℕ → Column (tDictionary i16 (string 8))
+abbrev wide : ℕ → Column (tDictionary (int w2) (string 8))
 wide at = record { len = 3; off = 1; valid = some (13 ∷ []); body = record { keys = encodes 2 (9 ∷ 7 ∷ 0 ∷ 1 ∷ []); values = words 8; starts = at ∷ 200 ∷ [] } }
 
-abbrev words-wider : Wider (tDictionary u8 (string 4)) (tDictionary i16 (string 8))
-words-wider = wDictionary u8 i16 (record { key = tt; key′ = tt; reach = omega arith }) (wString 4 8 (omega arith))
+abbrev words-wider : Wider (tDictionary (uint w1) (string 4)) (tDictionary (int w2) (string 8))
+words-wider = wDictionary (uint w1) (int w2) (record { key = tt; key′ = tt; reach = omega arith }) (wString 4 8 (omega arith))
 
 words-stored : (a b : ℕ) → Stored words-wider (narrow a) (wide b)
 unfolding item number encode bit
@@ -198,7 +198,7 @@ words-stored a b =
       };
     }
 
-words-source : (a : ℕ) → Source (tDictionary u8 (string 4)) (narrow a)
+words-source : (a : ℕ) → Source (tDictionary (uint w1) (string 4)) (narrow a)
 unfolding item number encode bit
 words-source a =
     record {
@@ -222,11 +222,11 @@ words-source a =
 abbrev words-have : List Row
 words-have = null ∷ bytes (118 ∷ 97 ∷ 110 ∷ []) ∷ bytes (115 ∷ 116 ∷ 111 ∷ 112 ∷ []) ∷ []
 
-words-rows : (a : ℕ) → readAll (tDictionary u8 (string 4)) (narrow a) ≡ words-have
+words-rows : (a : ℕ) → readAll (tDictionary (uint w1) (string 4)) (narrow a) ≡ words-have
 unfolding item number encode bit
 words-rows a = refl
 
-pub words-wide-rows : (a b : ℕ) → readAll (tDictionary i16 (string 8)) (wide b) ≡ words-have
+pub words-wide-rows : (a b : ℕ) → readAll (tDictionary (int w2) (string 8)) (wide b) ≡ words-have
 words-wide-rows a b = sym (rows-same words-wider (words-stored a b) (words-source a)) ∙ words-rows a
 
 -- sources whose dictionaries stand apart, made again at other places: none are shared, in both

@@ -6,36 +6,36 @@ use mathlib.Core.List.{List, [], _∷_, _++_}
 use Prim.Native.Nat.{ℕ, zero, suc, _+_}
 use lib.IntN.{negsuc}
 use Rattle.columnar.specs.Row.{null, whole, single, bytes, list, union, rows}
-use Rattle.columnar.specs.Types.{i8, u8, i16, i32, f32, fixed, string, Ty, tPlain, tView, tListView, tList, tSparse, tDense, tRunEnd, tDictionary}
+use Rattle.columnar.specs.Types.{int, uint, w1, w2, w4, f32, fixed, string, Ty, tPlain, tView, tListView, tList, tSparse, tDense, tRunEnd, tDictionary}
 use Rattle.columnar.specs.Reading.{Column}
 pub use Rattle.columnar.specs.Written.{array, slice, pack, joe, mark}
-use Rattle.columnar.specs.Written.{Example, int, foo, bar, baz, hello-world, long-string, f1·0, f1·2, f2·0, f3·4}
+use Rattle.columnar.specs.Written.{Example, num, foo, bar, baz, hello-world, long-string, f1·0, f1·2, f2·0, f3·4}
 
 -- "Validity bitmaps": [0, 1, null, 2, null, 3], bitmap 00101011
 abbrev pub bitmap : Example
 bitmap =
     record {
-      type = tPlain (fixed u8);
+      type = tPlain (fixed (uint w1));
       column = array 6 0 (some (0b00101011 ∷ [])) (0 ∷ 1 ∷ 9 ∷ 2 ∷ 9 ∷ 3 ∷ []);
-      reads = int 0 ∷ int 1 ∷ null ∷ int 2 ∷ null ∷ int 3 ∷ [];
+      reads = num 0 ∷ num 1 ∷ null ∷ num 2 ∷ null ∷ num 3 ∷ [];
     }
 
 -- "Fixed-Size Primitive Layout": Int32 [1, null, 2, 4, 8], byte by byte
 abbrev pub primitive : Example
 primitive =
     record {
-      type = tPlain (fixed i32);
+      type = tPlain (fixed (int w4));
       column = array 5 0 (some (0b00011101 ∷ [])) (1 ∷ 0 ∷ 0 ∷ 0 ∷ 9 ∷ 9 ∷ 9 ∷ 9 ∷ 2 ∷ 0 ∷ 0 ∷ 0 ∷ 4 ∷ 0 ∷ 0 ∷ 0 ∷ 8 ∷ 0 ∷ 0 ∷ 0 ∷ []);
-      reads = int 1 ∷ null ∷ int 2 ∷ int 4 ∷ int 8 ∷ [];
+      reads = num 1 ∷ null ∷ num 2 ∷ num 4 ∷ num 8 ∷ [];
     }
 
 -- the same without nulls and without a bitmap: [1, 2, 3, 4, 8]
 abbrev pub no-nulls : Example
 no-nulls =
     record {
-      type = tPlain (fixed i32);
+      type = tPlain (fixed (int w4));
       column = array 5 0 none (pack 4 (1 ∷ 2 ∷ 3 ∷ 4 ∷ 8 ∷ []));
-      reads = int 1 ∷ int 2 ∷ int 3 ∷ int 4 ∷ int 8 ∷ [];
+      reads = num 1 ∷ num 2 ∷ num 3 ∷ num 4 ∷ num 8 ∷ [];
     }
 
 -- "Variable-size Binary Layout": ['joe', null, null, 'mark']
@@ -72,7 +72,7 @@ view-slice = record { type = tView; column = slice 2 1 (views (97 ∷ 32 ∷ 108
 abbrev pub list-view : Example
 list-view =
     record {
-      type = tListView 4 (tPlain (fixed i8));
+      type = tListView 4 (tPlain (fixed (int w1)));
       column =
           array 4 0 (some (0b00001101 ∷ []))
           (record {
@@ -80,11 +80,11 @@ list-view =
             sizes = pack 4 (3 ∷ 0 ∷ 4 ∷ 0 ∷ []);
             child = array 7 0 none (12 ∷ 249 ∷ 25 ∷ 0 ∷ 129 ∷ 127 ∷ 50 ∷ []);
           });
-      reads = list (rows (int 12 ∷ whole (negsuc 6) ∷ int 25 ∷ [])) ∷ null ∷ list (rows (int 0 ∷ whole (negsuc 126) ∷ int 127 ∷ int 50 ∷ [])) ∷ list (rows []) ∷ [];
+      reads = list (rows (num 12 ∷ whole (negsuc 6) ∷ num 25 ∷ [])) ∷ null ∷ list (rows (num 0 ∷ whole (negsuc 126) ∷ num 127 ∷ num 50 ∷ [])) ∷ list (rows []) ∷ [];
     }
 
 -- the same out of order, with a shared part: [[12, -7, 25], null, [0, -127, 127, 50], [], [50, 12]]
-abbrev pub shuffled : ℕ → Column (tListView 4 (tPlain (fixed i8)))
+abbrev pub shuffled : ℕ → Column (tListView 4 (tPlain (fixed (int w1))))
 shuffled null-size =
     array 5 0 (some (0b00011101 ∷ []))
     (record {
@@ -96,10 +96,10 @@ shuffled null-size =
 abbrev pub out-of-order : Example
 out-of-order =
     record {
-      type = tListView 4 (tPlain (fixed i8));
+      type = tListView 4 (tPlain (fixed (int w1)));
       column = shuffled 0;
-      reads = list (rows (int 12 ∷ whole (negsuc 6) ∷ int 25 ∷ [])) ∷ null ∷ list (rows (int 0 ∷ whole (negsuc 126) ∷ int 127 ∷ int 50 ∷ [])) ∷ list (rows [])
-          ∷ list (rows (int 50 ∷ int 12 ∷ []))
+      reads = list (rows (num 12 ∷ whole (negsuc 6) ∷ num 25 ∷ [])) ∷ null ∷ list (rows (num 0 ∷ whole (negsuc 126) ∷ num 127 ∷ num 50 ∷ [])) ∷ list (rows [])
+          ∷ list (rows (num 50 ∷ num 12 ∷ []))
           ∷ [];
     }
 
@@ -107,7 +107,7 @@ out-of-order =
 abbrev pub nested : Example
 nested =
     record {
-      type = tListView 4 (tListView 8 (tPlain (fixed i8)));
+      type = tListView 4 (tListView 8 (tPlain (fixed (int w1))));
       column =
           array 3 0 none
           (record {
@@ -121,39 +121,39 @@ nested =
                   child = array 10 0 none (1 ∷ 2 ∷ 3 ∷ 4 ∷ 5 ∷ 6 ∷ 7 ∷ 8 ∷ 9 ∷ 10 ∷ []);
                 });
           });
-      reads = list (rows (list (rows (int 1 ∷ int 2 ∷ [])) ∷ list (rows (int 3 ∷ int 4 ∷ [])) ∷ []))
-          ∷ list (rows (list (rows (int 5 ∷ int 6 ∷ int 7 ∷ [])) ∷ null ∷ list (rows (int 8 ∷ [])) ∷ []))
-          ∷ list (rows (list (rows (int 9 ∷ int 10 ∷ [])) ∷ []))
+      reads = list (rows (list (rows (num 1 ∷ num 2 ∷ [])) ∷ list (rows (num 3 ∷ num 4 ∷ [])) ∷ []))
+          ∷ list (rows (list (rows (num 5 ∷ num 6 ∷ num 7 ∷ [])) ∷ null ∷ list (rows (num 8 ∷ [])) ∷ []))
+          ∷ list (rows (list (rows (num 9 ∷ num 10 ∷ [])) ∷ []))
           ∷ [];
     }
 
 -- "Variable-size List Layout": [[12, -7, 25], null, [0, -127, 127, 50], []]
-abbrev pub listed : List ℕ → Column (tList 4 (tPlain (fixed i8)))
+abbrev pub listed : List ℕ → Column (tList 4 (tPlain (fixed (int w1))))
 listed offsets =
     array 4 0 (some (0b00001101 ∷ [])) (record { offsets = pack 4 offsets; child = array 7 0 none (12 ∷ 249 ∷ 25 ∷ 0 ∷ 129 ∷ 127 ∷ 50 ∷ []) })
 
 abbrev pub lists : Example
 lists =
     record {
-      type = tList 4 (tPlain (fixed i8));
+      type = tList 4 (tPlain (fixed (int w1)));
       column = listed (0 ∷ 3 ∷ 3 ∷ 7 ∷ 7 ∷ []);
-      reads = list (rows (int 12 ∷ whole (negsuc 6) ∷ int 25 ∷ [])) ∷ null ∷ list (rows (int 0 ∷ whole (negsuc 126) ∷ int 127 ∷ int 50 ∷ [])) ∷ list (rows []) ∷ [];
+      reads = list (rows (num 12 ∷ whole (negsuc 6) ∷ num 25 ∷ [])) ∷ null ∷ list (rows (num 0 ∷ whole (negsuc 126) ∷ num 127 ∷ num 50 ∷ [])) ∷ list (rows []) ∷ [];
     }
 
 -- a null row may have rows of the child: they are not read
 abbrev pub lists-slice : Example
 lists-slice =
     record {
-      type = tList 4 (tPlain (fixed i8));
+      type = tList 4 (tPlain (fixed (int w1)));
       column = slice 1 2 (listed (0 ∷ 1 ∷ 3 ∷ 5 ∷ 7 ∷ []));
-      reads = null ∷ list (rows (int 0 ∷ whole (negsuc 126) ∷ [])) ∷ [];
+      reads = null ∷ list (rows (num 0 ∷ whole (negsuc 126) ∷ [])) ∷ [];
     }
 
 -- its lists of lists, the second level large: [[[1, 2], [3, 4]], [[5, 6, 7], null, [8]], [[9, 10]]]
 abbrev pub lists-of-lists : Example
 lists-of-lists =
     record {
-      type = tList 4 (tList 8 (tPlain (fixed i8)));
+      type = tList 4 (tList 8 (tPlain (fixed (int w1))));
       column =
           array 3 0 none
           (record {
@@ -170,12 +170,12 @@ lists-of-lists =
 
 -- no rows, and no offsets
 abbrev pub no-lists : Example
-no-lists = record { type = tList 8 (tPlain (fixed u8)); column = array 0 0 none (record { offsets = []; child = array 1 0 none (7 ∷ []) }); reads = [] }
+no-lists = record { type = tList 8 (tPlain (fixed (uint w1))); column = array 0 0 none (record { offsets = []; child = array 1 0 none (7 ∷ []) }); reads = [] }
 
 -- "Dense Union": f: Float32, i: Int32; [{f=1.2}, null, {f=3.4}, {i=5}]
 abbrev pub f-or-i : ℕ → Ty
 f-or-i zero = tPlain (fixed f32)
-f-or-i (suc n) = tPlain (fixed i32)
+f-or-i (suc n) = tPlain (fixed (int w4))
 
 abbrev pub dense-type : Ty
 dense-type = tDense (0 ∷ 1 ∷ []) (λ c. true) f-or-i
@@ -192,16 +192,16 @@ dense =
     record {
       type = dense-type;
       column = dense-column (0 ∷ 1 ∷ 2 ∷ 0 ∷ []);
-      reads = union 0 (single f1·2) ∷ union 0 null ∷ union 0 (single f3·4) ∷ union 1 (int 5) ∷ [];
+      reads = union 0 (single f1·2) ∷ union 0 null ∷ union 0 (single f3·4) ∷ union 1 (num 5) ∷ [];
     }
 
 abbrev pub dense-slice : Example
 dense-slice =
-    record { type = dense-type; column = slice 2 2 (dense-column (0 ∷ 1 ∷ 2 ∷ 0 ∷ [])); reads = union 0 (single f3·4) ∷ union 1 (int 5) ∷ [] }
+    record { type = dense-type; column = slice 2 2 (dense-column (0 ∷ 1 ∷ 2 ∷ 0 ∷ [])); reads = union 0 (single f3·4) ∷ union 1 (num 5) ∷ [] }
 
 -- "Sparse Union": i: Int32, f: Float32, s: VarBinary; [{i=5}, {f=1.2}, {s='joe'}, {f=3.4}, {i=4}, {s='mark'}]
 abbrev pub i-f-or-s : ℕ → Ty
-i-f-or-s zero = tPlain (fixed i32)
+i-f-or-s zero = tPlain (fixed (int w4))
 i-f-or-s (suc zero) = tPlain (fixed f32)
 i-f-or-s (suc (suc n)) = tPlain (string 4)
 
@@ -221,7 +221,7 @@ sparse =
     record {
       type = sparse-type;
       column = sparse-column none sparse-children;
-      reads = union 0 (int 5) ∷ union 1 (single f1·2) ∷ union 2 (bytes joe) ∷ union 1 (single f3·4) ∷ union 0 (int 4) ∷ union 2 (bytes mark) ∷ [];
+      reads = union 0 (num 5) ∷ union 1 (single f1·2) ∷ union 2 (bytes joe) ∷ union 1 (single f3·4) ∷ union 0 (num 4) ∷ union 2 (bytes mark) ∷ [];
     }
 
 -- the same children, the first two with a slot more in front, at offset 1
@@ -235,7 +235,7 @@ sparse-slice =
     record {
       type = sparse-type;
       column = slice 1 4 (sparse-column none moved-children);
-      reads = union 1 (single f1·2) ∷ union 2 (bytes joe) ∷ union 1 (single f3·4) ∷ union 0 (int 4) ∷ [];
+      reads = union 1 (single f1·2) ∷ union 2 (bytes joe) ∷ union 1 (single f3·4) ∷ union 0 (num 4) ∷ [];
     }
 
 -- "Run-End Encoded Layout": Float32 [1.0, 1.0, 1.0, 1.0, null, null, 2.0], run ends 4, 6, 7
@@ -270,10 +270,10 @@ run-end-offsets =
 
 -- no rows, and no run
 abbrev pub no-runs : Example
-no-runs = record { type = tRunEnd 8 (tPlain (fixed u8)); column = array 0 0 none (record { ends = array 0 0 none []; values = array 0 0 none [] }); reads = [] }
+no-runs = record { type = tRunEnd 8 (tPlain (fixed (uint w1))); column = array 0 0 none (record { ends = array 0 0 none []; values = array 0 0 none [] }); reads = [] }
 
 -- "Dictionary-encoded Layout": ['foo', 'bar', 'foo', 'bar', null, 'baz'], indices 0, 1, 0, 1, null, 2; a null's key may be anything
-abbrev pub keyed : ℕ → Column (tDictionary i32 (string 4))
+abbrev pub keyed : ℕ → Column (tDictionary (int w4) (string 4))
 keyed last =
     array 6 0 (some (0b00101111 ∷ []))
     (record {
@@ -285,7 +285,7 @@ keyed last =
 abbrev pub dictionary : Example
 dictionary =
     record {
-      type = tDictionary i32 (string 4);
+      type = tDictionary (int w4) (string 4);
       column = keyed 2;
       reads = bytes foo ∷ bytes bar ∷ bytes foo ∷ bytes bar ∷ null ∷ bytes baz ∷ [];
     }
@@ -294,7 +294,7 @@ dictionary =
 abbrev pub dictionary-slice : Example
 dictionary-slice =
     record {
-      type = tDictionary u8 (fixed i16);
+      type = tDictionary (uint w1) (fixed (int w2));
       column = array 3 3 none (record { keys = 9 ∷ 9 ∷ 9 ∷ 2 ∷ 0 ∷ 1 ∷ []; values = array 3 1 none (pack 2 (9 ∷ 10 ∷ 520 ∷ 65535 ∷ [])); starts = [] });
       reads = bytes (255 ∷ 255 ∷ []) ∷ bytes (10 ∷ 0 ∷ []) ∷ bytes (8 ∷ 2 ∷ []) ∷ [];
     }
@@ -303,7 +303,7 @@ dictionary-slice =
 abbrev pub dictionary-nulls : Example
 dictionary-nulls =
     record {
-      type = tDictionary i32 (string 4);
+      type = tDictionary (int w4) (string 4);
       column = array 6 0 none
           (record {
             keys = pack 4 (0 ∷ 1 ∷ 3 ∷ 1 ∷ 4 ∷ 2 ∷ []);
@@ -323,7 +323,7 @@ bo = 66 ∷ 111 ∷ []
 abbrev pub drivers : Example
 drivers =
     record {
-      type = tDictionary u8 (string 4);
+      type = tDictionary (uint w1) (string 4);
       column = array 5 1 (some (0b00110111 ∷ []))
           (record {
             keys = 9 ∷ 0 ∷ 1 ∷ 9 ∷ 2 ∷ 1 ∷ [];
@@ -354,15 +354,15 @@ pub record AnyColumn : Type 0 where
 -- each breaks one rule: what it breaks stands beside it
 abbrev pub broken : List AnyColumn
 broken =
-    record { type = tPlain (fixed i32); column = array 2 1 none (pack 4 (1 ∷ 2 ∷ [])) }  -- a buffer for offset + length
-    ∷ record { type = tPlain (fixed u8); column = array 9 0 (some (255 ∷ [])) (pack 1 (1 ∷ 2 ∷ 3 ∷ 4 ∷ 5 ∷ 6 ∷ 7 ∷ 8 ∷ 9 ∷ [])) }  -- a bit for each row
+    record { type = tPlain (fixed (int w4)); column = array 2 1 none (pack 4 (1 ∷ 2 ∷ [])) }  -- a buffer for offset + length
+    ∷ record { type = tPlain (fixed (uint w1)); column = array 9 0 (some (255 ∷ [])) (pack 1 (1 ∷ 2 ∷ 3 ∷ 4 ∷ 5 ∷ 6 ∷ 7 ∷ 8 ∷ 9 ∷ [])) }  -- a bit for each row
     ∷ record { type = tPlain (string 4); column = binary (0 ∷ 3 ∷ 3 ∷ 3 ∷ 8 ∷ []) }  -- the last offset within the data
     ∷ record { type = tPlain (string 4); column = binary (0 ∷ 3 ∷ 3 ∷ 7 ∷ 6 ∷ []) }  -- the last row's offset not falling
     ∷ record { type = tView; column = views mark }  -- a long view's prefix
-    ∷ record { type = tListView 4 (tPlain (fixed i8)); column = shuffled 1 }  -- a null row's entry within the child
-    ∷ record { type = tListView 4 (tPlain (fixed i8)); column = shuffled 0xffffffff }  -- no negative size
-    ∷ record { type = tList 4 (tPlain (fixed i8)); column = listed (0 ∷ 3 ∷ 3 ∷ 7 ∷ 8 ∷ []) }  -- the last offset within the child's rows
-    ∷ record { type = tList 4 (tPlain (fixed i8)); column = listed (0 ∷ 3 ∷ 2 ∷ 7 ∷ 7 ∷ []) }  -- a null row's offset not falling
+    ∷ record { type = tListView 4 (tPlain (fixed (int w1))); column = shuffled 1 }  -- a null row's entry within the child
+    ∷ record { type = tListView 4 (tPlain (fixed (int w1))); column = shuffled 0xffffffff }  -- no negative size
+    ∷ record { type = tList 4 (tPlain (fixed (int w1))); column = listed (0 ∷ 3 ∷ 3 ∷ 7 ∷ 8 ∷ []) }  -- the last offset within the child's rows
+    ∷ record { type = tList 4 (tPlain (fixed (int w1))); column = listed (0 ∷ 3 ∷ 2 ∷ 7 ∷ 7 ∷ []) }  -- a null row's offset not falling
     ∷ record { type = dense-type; column = dense-column (0 ∷ 1 ∷ 3 ∷ 0 ∷ []) }  -- a position within the child
     ∷ record { type = dense-type; column = array 4 0 (some (255 ∷ [])) (dense-column (0 ∷ 1 ∷ 2 ∷ 0 ∷ []) .body) }  -- no validity on a union
     ∷ record { type = sparse-type; column = sparse-column (some (255 ∷ [])) sparse-children }  -- no validity on a union
@@ -370,5 +370,5 @@ broken =
     ∷ record { type = tRunEnd 4 (tPlain (fixed f32)); column = runs (4 ∷ 4 ∷ 7 ∷ []) }  -- run ends rising
     ∷ record { type = tRunEnd 4 (tPlain (fixed f32)); column = slice 1 7 (runs (4 ∷ 6 ∷ 7 ∷ [])) }  -- run ends up to offset + length
     ∷ record { type = tRunEnd 4 (tPlain (fixed f32)); column = array 7 0 (some (255 ∷ [])) (runs (4 ∷ 6 ∷ 7 ∷ []) .body) }  -- no validity on a run-end node
-    ∷ record { type = tDictionary i32 (string 4); column = keyed 3 }  -- a key within the dictionary
+    ∷ record { type = tDictionary (int w4) (string 4); column = keyed 3 }  -- a key within the dictionary
     ∷ []

@@ -7,7 +7,7 @@ use lib.ListN.{length, take, drop}
 use lib.IntN.{pos}
 use Rattle.number.specs.Number.{signed}
 use Rattle.columnar.specs.Row.{Row, whole, single, double, bytes}
-use Rattle.columnar.specs.Types.{Number, i8, u8, i16, u16, i32, u32, i64, u64, f32, f64, width, half, Plain, fixed, string}
+use Rattle.columnar.specs.Types.{size, Number, int, uint, f32, f64, width, half, Plain, fixed, string}
 use Rattle.columnar.specs.Array.{item}
 
 -- "a byte string: an offsets buffer of length + 1 numbers and a data buffer"
@@ -21,14 +21,8 @@ PlainBody (string w) = Text
 
 -- what the bits of a number read as
 abbrev pub value : Number → ℕ → Row
-value i8 p = whole (signed 1 p)
-value u8 p = whole (pos p)
-value i16 p = whole (signed 2 p)
-value u16 p = whole (pos p)
-value i32 p = whole (signed 4 p)
-value u32 p = whole (pos p)
-value i64 p = whole (signed 8 p)
-value u64 p = whole (pos p)
+value (int s) p = whole (signed (size s) p)
+value (uint s) p = whole (pos p)
 value f32 p = single p
 value f64 p = double p
 

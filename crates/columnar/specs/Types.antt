@@ -4,29 +4,30 @@ use mathlib.Core.List.{List}
 use Prim.Native.Nat.{ℕ, _+_, _-_, _/_, _^_}
 use lib.Dec.{ltb}
 
--- c C s S i I l L f g
+-- 1, 2, 4 or 8 bytes
+pub data Size : Type 0 where
+  w1 : Size
+  w2 : Size
+  w4 : Size
+  w8 : Size
+
+abbrev pub size : Size → ℕ
+size w1 = 1
+size w2 = 2
+size w4 = 4
+size w8 = 8
+
+-- whole numbers with a sign (c s i l) and without (C S I L), and floats (f g)
 pub data Number : Type 0 where
-  i8 : Number
-  u8 : Number
-  i16 : Number
-  u16 : Number
-  i32 : Number
-  u32 : Number
-  i64 : Number
-  u64 : Number
+  int : Size → Number
+  uint : Size → Number
   f32 : Number
   f64 : Number
 
 -- its bytes
 abbrev pub width : Number → ℕ
-width i8 = 1
-width u8 = 1
-width i16 = 2
-width u16 = 2
-width i32 = 4
-width u32 = 4
-width i64 = 8
-width u64 = 8
+width (int s) = size s
+width (uint s) = size s
 width f32 = 4
 width f64 = 8
 
@@ -36,14 +37,8 @@ half w = 256 ^ w / 2
 
 -- one more than the largest key of a format, signed or not
 abbrev pub limit : Number → ℕ
-limit i8 = half 1
-limit u8 = 256 ^ 1
-limit i16 = half 2
-limit u16 = 256 ^ 2
-limit i32 = half 4
-limit u32 = 256 ^ 4
-limit i64 = half 8
-limit u64 = 256 ^ 8
+limit (int s) = half (size s)
+limit (uint s) = 256 ^ size s
 limit f32 = 0
 limit f64 = 0
 

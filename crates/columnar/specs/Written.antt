@@ -27,8 +27,8 @@ abbrev pub pack : ℕ → List ℕ → List ℕ
 pack w [] = []
 pack w (n ∷ ns) = encode w n ++ pack w ns
 
-abbrev pub int : ℕ → Row
-int n = whole (pos n)
+abbrev pub num : ℕ → Row
+num n = whole (pos n)
 
 -- strings as bytes, and 1.0, 1.2, 2.0 and 3.4 as the bits of an f32
 abbrev pub joe : List ℕ

@@ -16,7 +16,9 @@ use Rattle.schema.proofs.Laws.{every-all}
 use Rattle.schema.proofs.Known.{every-at}
 use Rattle.array_data.specs.Tables.{Tables, held as tabled, validIn}
 use Rattle.array_data.specs.Rules.{oneIn, twoIn, buffersIn}
-use Rattle.array_data.specs.Typed.{NodeKind, fixedNode, stringNode, viewNode, listViewNode, listNode, sparseNode, denseNode, runEndNode, dictionaryNode, Tree, columnOf, kindRule, nodeRule, sourceRule, placedAs, placed, tablesFrom}
+use Rattle.array_data.proofs.type_tree.ByKind.{placedAs, placed-in}
+use Rattle.array_data.specs.NodeKinds.{NodeKind, fixedNode, stringNode, viewNode, listViewNode, listNode, sparseNode, denseNode, runEndNode, dictionaryNode}
+use Rattle.array_data.specs.Typed.{Tree, columnOf, kindRule, nodeRule, sourceRule, placed, tablesFrom, kindIn}
 use Rattle.array_data.specs.type_tree.Lent.{treeOf, typeOf}
 use Rattle.array_data.proofs.type_tree.Ids.{both}
 use Rattle.array_data.proofs.type_tree.Source.{lent-source, lent-obeys, same-source, same-obeys}
@@ -72,7 +74,7 @@ module _ (t : Tree) (x : Tables) where
   kind-placed (dictionaryNode n) i = first-part (oneIn x i) _
 
   pub rule-placed : T (sourceRule t x) → (j : ℕ) → j < t .count → T (placed t x j)
-  rule-placed all j l = kind-placed (t .kind j) j (every-out (nodeRule t x) (t .count) all j l)
+  rule-placed all j l = placed-in t x j (kind-placed (kindIn t j) j (every-out (nodeRule t x) (t .count) all j l))
 
   module _ (u : Ty) where
     pub lawful-from : ((j : ℕ) → j < t .count → T (placed t x j)) → T (test u (columnOf t x u 0)) → T (lawful t x u)

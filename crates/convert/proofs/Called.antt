@@ -8,7 +8,7 @@ use lib.ListN.{length, replicate}
 use lib.Dec.{eqb}
 use borrow.Author.Tests.{eq-eqb, ne-eqb, eqb-true, lt-leb, le-leb}
 use Rattle.columnar.specs.Formed.{OffsetWidth}
-use Rattle.schema.specs.Tree.{whole, typed}
+use Rattle.schema.specs.Tree.{endFrom, whole, typed}
 use Rattle.schema.proofs.Known.{within-nodes}
 use Rattle.array_data.specs.Tables.{Tables}
 use Rattle.array_data.specs.lent_tables.Lent.{tables}
@@ -72,7 +72,7 @@ wide-either _ OffsetWidth.four h = absurd (h refl)
 wide-either _ OffsetWidth.eight h = refl
 
 pub no-type : (formats schema : List ℕ) (target : ℕ) → typed formats schema target 0 ≡ true → ⊥
-unfolding typed whole
+unfolding typed whole endFrom
 no-type formats schema target e = let k : _≡_ {A = ℕ} 0 1 = ap (λ t. cond t 1 0) e in omega (arith, k)
 
 module _ (formats schema lengths places buffers body : List ℕ) (first n target tn : ℕ) where

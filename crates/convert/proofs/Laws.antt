@@ -12,7 +12,7 @@ use lib.Dec.{ltb}
 use borrow.Author.Tests.{lt-ltb, le-ltb, eq-eqb, ne-eqb, ltb-false}
 use Rattle.columnar.specs.Array.{bit, ok}
 use Rattle.schema.specs.formats.Code.{isListView, isList}
-use Rattle.schema.specs.Tree.{whole, codeOf, ceilings, typed, sameType}
+use Rattle.schema.specs.Tree.{endFrom, whole, codeOf, ceilings, typed, sameType}
 use Rattle.array_data.specs.Tables.{Tables, validOf}
 use Rattle.array_data.specs.entries.Entries.{column, validIn}
 use Rattle.array_data.specs.declared.entries.Validity.the-variants as validity
@@ -90,7 +90,7 @@ module _ (formats schema : List ℕ) (first n target tn : ℕ) where
   due-sizes h = child-no (rw (ne-eqb n tn h, no-right))
 
   typed-none : typed formats schema target 0 ≡ false
-  unfolding typed whole
+  unfolding typed whole endFrom
   typed-none = refl
 
   pub due-none : n ≡ tn → n ≡ 0 → false ≡ Below

@@ -22,6 +22,7 @@ use Rattle.leaf_walk.proofs.variable_size.Lists.{untouched}
 use Rattle.nested_rows.proofs.node_data.Laws.{data-list-view, data-list}
 use Rattle.extend.proofs.Laws.{by}
 use Rattle.walk.proofs.Names.{putList}
+use Rattle.walk.proofs.Offsets.{list-is}
 
 -- ---- by the code
 
@@ -83,8 +84,8 @@ module _ (x : Join) (child : Walk) (wr : Bool) (w i slot n : ℕ) (c room : List
       -- the walk by what its offsets come to
       lists-by : {r : ℕ} {c2 room2 : List ℕ} → Did (x .plan) (x .parts) wr (putList x child w i (place x i 3 + w * slot) n found c) room r c2 room2
           → Did (x .plan) (x .parts) wr (copyList x child w i slot n c) room r c2 room2
-      unfolding copyList triedOffsets
-      lists-by d = rw (ne-eqb n 0 s) (need-ok 12 c (lt-ltb (suc i) 32 (rw e at h)) (by (sym (tried (rowsIn x (place x i 3) w slot (suc n)) (extended w (x .body) (place x i 3 + w * slot) n (rows c (suc i))))) (rw f at d)))
+      unfolding triedOffsets
+      lists-by d = rw (list-is x child w i slot n c, ne-eqb n 0 s) (need-ok 12 c (lt-ltb (suc i) 32 (rw e at h)) (by (sym (tried (rowsIn x (place x i 3) w slot (suc n)) (extended w (x .body) (place x i 3 + w * slot) n (rows c (suc i))))) (rw f at d)))
 
       pub lists-over : {row needed : ℕ} → found ≡ Over row needed → Did (x .plan) (x .parts) wr (copyList x child w i slot n c) room 6 c room1
       lists-over k =

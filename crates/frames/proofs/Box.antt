@@ -20,7 +20,8 @@ use Rattle.schema.specs.formats.Types.{numberOf}
 use Rattle.schema.specs.Tree.{ceilings, typed}
 use Rattle.array_data.specs.Tables.{Tables, part, lengthOf, offsetOf, place, validOf, firstBuffer, held, inBody, validIn}
 use Rattle.array_data.specs.Rules.{oneIn, fixedRule}
-use Rattle.array_data.specs.Typed.{NodeKind, fixedNode, Means, columnOf, tablesFrom, kindRule, nodeRule, sourceRule}
+use Rattle.array_data.specs.NodeKinds.{NodeKind, fixedNode}
+use Rattle.array_data.specs.Typed.{Means, columnOf, tablesFrom, kindRule, nodeRule, sourceRule}
 use Rattle.array_data.specs.type_tree.Lent.{treeOf, typeOf}
 use Rattle.array_data.proofs.type_tree.Lent.{means}
 use Rattle.array_data.proofs.type_tree.Ids.{both}

@@ -11,10 +11,10 @@ ghost use Rattle.walk.specs.State.{codeOf, top};
 ghost use Rattle.walk.specs.Log.{startOf};
 ghost use Rattle.schema.specs.formats.Code.{isView};
 ghost use Rattle.plan.specs.parts.Parts.{nodesOf, hasPart, neededBy, needed};
-ghost use Rattle.refinement.specs.finishing.Finish.{nullsAt, nullTable, validPlace, bufferStart, bufferSize, copiedPlace, keptPlace, placeAt, placeTable};
+ghost use Rattle.refinement.specs.finishing.Finish.{nullsAt, nullTable, bufferStart, bufferSize, copiedPlace, keptPlace, placeAt, placeTable};
 ghost use Rattle.into_builder.specs.buffers.Names.{lent, countAt, countBefore};
 ghost use Rattle.into_builder.specs.counts.Counts.{zerosOf};
-ghost use Rattle.into_builder.specs.places.Places.{Placed};
+ghost use Rattle.into_builder.specs.places.Places.{Placed, validPlace};
 use crate::buffers;
 use crate::counts;
 use array_data::lent_tables;
@@ -78,7 +78,7 @@ fn valid_place(
     j: usize,
 ) -> u64
     requires { ⌜ (i < 32) × (j < 3) × Placed (now plan) (now parts) (now counters) base i ⌝ }
-    ensures { λ r. ⌜ ((room : List ℕ) → zeros ≡ zerosOf (was plan) (was parts) (was counters) room i → r ≡ cond (eqb zeros 0) 0 (validPlace (lent (was plan) (was parts) [] [] [] []) [] (was counters) room base i j)) ⌝ }
+    ensures { λ r. ⌜ ((room : List ℕ) → zeros ≡ zerosOf (was plan) (was parts) (was counters) room i → r ≡ cond (eqb zeros 0) 0 (validPlace (was plan) (was parts) (was counters) base i j)) ⌝ }
 {
     if !plan::parts::has_part(plan, i, 0) {
         return 0;
@@ -143,7 +143,7 @@ fn copied_place(
     i: usize,
     j: usize,
 ) -> u64
-    requires { ⌜ (i < nodesOf (now plan)) × Placed (now plan) (now parts) (now counters) base i ⌝ }
+    requires { ⌜ (i < nodesOf (now plan)) × (j < 9) × Placed (now plan) (now parts) (now counters) base i ⌝ }
     ensures { λ r. ⌜ ((lengths body buffers room : List ℕ) → zeros ≡ zerosOf (was plan) (was parts) (was counters) room i → r ≡ copiedPlace (lent (was plan) (was parts) (was sources) lengths (was places) body) buffers (was counters) room base i j) ⌝ }
 {
     if j < 3 {

@@ -15,6 +15,7 @@ use Rattle.walk.specs.Log.{Entry, put, mask, amend, Log, Out, fail, done, wrote
 use Rattle.walk.specs.Leaves.{copyBits, copyMask, copyNumbers, copyKeys, copyViews, putString, putExtended, copyString}
 use Rattle.walk.specs.Copy.{Walk, masked, listViewRow, copyListView, putStretch, copyList, copySparse, denseTo, denseRow, copyDense, putRuns, runsAt, copyRuns, copyData, copySlots, copyNode, copyWalk, eachField}
 use Rattle.walk.proofs.Names.{putList, copyFields}
+use Rattle.walk.proofs.Offsets.{string-is, list-is}
 
 -- a write over run ends is at a node of K
 abbrev pub Amended : (ℕ → Type 0) → Entry → Type 0
@@ -99,10 +100,10 @@ module _ (x : Join) where
     plain-extended w from n Falls c = plain-fail 12 c
 
     plain-string : (w slot n : ℕ) (c : List ℕ) → Plain (copyString x i w slot n c)
-    unfolding copyString
     plain-string w slot n c =
-        plain-cond (eqb n 0) (plain-done c)
-        (plain-need _ 12 _ (plain-extended w (place x i 3 + w * slot) n (extended w (x .body) (place x i 3 + w * slot) n (bytes c i)) c))
+        rw (string-is x i w slot n c)
+        (plain-cond (eqb n 0) (plain-done c)
+        (plain-need _ 12 _ (plain-extended w (place x i 3 + w * slot) n (extended w (x .body) (place x i 3 + w * slot) n (bytes c i)) c)))
 
   module _ (walk : Walk) (below : (k a n : ℕ) (c : List ℕ) → Plain (walk k a n c)) (i : ℕ) where
     plain-list-view : (w slot n : ℕ) (c : List ℕ) → Plain (copyListView x walk w i slot n c)
@@ -117,10 +118,10 @@ module _ (x : Join) where
     plain-put-list w from n Falls c = plain-fail 12 c
 
     plain-list : (w slot n : ℕ) (c : List ℕ) → Plain (copyList x walk w i slot n c)
-    unfolding copyList
     plain-list w slot n c =
-        plain-cond (eqb n 0) (plain-done c)
-        (plain-need _ 12 _ (plain-need _ 12 _ (plain-put-list w (place x i 3 + w * slot) n (extended w (x .body) (place x i 3 + w * slot) n (rows c (suc i))) c)))
+        rw (list-is x walk w i slot n c)
+        (plain-cond (eqb n 0) (plain-done c)
+        (plain-need _ 12 _ (plain-need _ 12 _ (plain-put-list w (place x i 3 + w * slot) n (extended w (x .body) (place x i 3 + w * slot) n (rows c (suc i))) c))))
 
     plain-fields : (slot n end f k : ℕ) (c : List ℕ) → Plain (copyFields x walk slot n end f k c)
     unfolding eachField

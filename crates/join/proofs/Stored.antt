@@ -9,7 +9,8 @@ use lib.ListN.{length}
 use lib.Dec.{leb, ltb, eqb}
 use borrow.Author.Tests.{le-leb, eqb-true, eq-eqb, ne-eqb, eqb-false}
 use Rattle.schema.specs.formats.Code.{isInteger, isFixed, isString, isView, isListView, isList, isUnion, isRunEnd}
-use Rattle.schema.specs.Tree.{flag, children, dictionary, below, endFrom, dueFrom, bare, childForEach, isValues, endOf, childAt, depth, whole, codeOf, idsOf, fewFields, valuesShape, endsShape, leafShape, keysShape, listShape, unionShape, runShape, shape, ceilings, typed, sameFlag, sameFormats, sameNode, sameType}
+use Rattle.schema.proofs.Due.{dueFrom, whole-is}
+use Rattle.schema.specs.Tree.{flag, children, dictionary, below, endFrom, bare, childForEach, isValues, endOf, childAt, depth, whole, codeOf, idsOf, fewFields, valuesShape, endsShape, leafShape, keysShape, listShape, unionShape, runShape, shape, ceilings, typed, sameFlag, sameFormats, sameNode, sameType}
 use Rattle.schema.proofs.Trees.{child-inside}
 use Rattle.schema.proofs.Known.{every-at, typed-whole, typed-shape, within-nodes, within-fields, within-depth, same-size, same-node}
 use Rattle.schema.proofs.Laws.{every-all, all-shaped, low-enough, one-low, all-same}
@@ -54,8 +55,10 @@ module _ (formats schema : List ℕ) (x : Tables) (first : ℕ) (formats′ sche
   end-same i l = end-from-same (n - i) 1 i (omega arith)
 
   whole-same : whole schema first n ≡ whole schema′ first′ n
-  unfolding whole
-  whole-same = ap₂ (λ d e. leb 1 n && eqb d 0 && eqb e n) (due-from-same n 1 0 (omega arith)) (end-same 0 (omega arith))
+  whole-same =
+      whole-is schema first n
+      ∙ ap₂ (λ d e. leb 1 n && eqb d 0 && eqb e n) (due-from-same n 1 0 (omega arith)) (end-same 0 (omega arith))
+      ∙ sym (whole-is schema′ first′ n)
 
   count-same : (p q : ℕ → Bool) (k : ℕ) → ((j : ℕ) → j < k → p j ≡ q j) → count p k ≡ count q k
   count-same p q zero h = refl

@@ -12,8 +12,9 @@ use Rattle.columnar.specs.Wider.{Wider}
 use Rattle.schema.specs.formats.Code as Code
 use Rattle.schema.specs.union_ids.Ids as Ids
 use Rattle.schema.specs.Tree as Tree
+use Rattle.array_data.specs.NodeKinds.{kindAt}
 use Rattle.array_data.specs.Typed.{placed, tablesFrom}
-use Rattle.array_data.specs.type_tree.Lent.{kindAt, treeOf}
+use Rattle.array_data.specs.type_tree.Lent.{treeOf}
 use Rattle.columns.specs.Grounds as Grounds
 use Rattle.columns.proofs.Grounds.{by-nodes}
 use Rattle.array_data.specs.Sources as Sources
@@ -115,7 +116,7 @@ stored =
 
 -- the narrow tables pass grounds 9 to 12
 narrow-taken : Grounds.sourcesGround texts (narrow .schema) (narrow .tables) (narrow .sources) ≡ 0
-unfolding Grounds.smallBody Grounds.fewSources Grounds.allWithin Grounds.allTyped Grounds.allSame Grounds.allObey Grounds.withinCeilings Grounds.nodeFits Grounds.countFits Grounds.fewBuffers Grounds.obeys Tree.ceilings Tree.fewFields Tree.codeOf Tree.idsOf Code.codeOf Tree.depth Tree.endOf Tree.endFrom Tree.dueFrom Tree.below Tree.bare Tree.typed Tree.whole Tree.shape Tree.leafShape Tree.keysShape Tree.valuesShape Tree.listShape Tree.unionShape Tree.runShape Tree.endsShape Tree.sameType Tree.sameNode Tree.sameFormats Tree.sameFlag Tree.isValues kindAt Ids.allowed Ids.pieces Ids.idOf Ids.decimal Ids.distinct item number
+unfolding Grounds.smallBody Grounds.fewSources Grounds.allWithin Grounds.allTyped Grounds.allSame Grounds.allObey Grounds.withinCeilings Grounds.nodeFits Grounds.countFits Grounds.fewBuffers Grounds.obeys Tree.ceilings Tree.fewFields Tree.codeOf Tree.idsOf Code.codeOf Tree.depth Tree.endOf Tree.endFrom Tree.below Tree.bare Tree.typed Tree.whole Tree.shape Tree.leafShape Tree.keysShape Tree.valuesShape Tree.listShape Tree.unionShape Tree.runShape Tree.endsShape Tree.sameType Tree.sameNode Tree.sameFormats Tree.sameFlag Tree.isValues kindAt Ids.allowed Ids.pieces Ids.idOf Ids.decimal Ids.distinct item number
 narrow-taken = by-nodes (narrow .formats) (narrow .schema) (narrow .tables) (narrow .sources)
 
 -- AND SO THE TYPES ARE WIDER

@@ -20,8 +20,9 @@ use Rattle.schema.specs.formats.Code as Code
 use Rattle.schema.specs.formats.Code.{isString}
 use Rattle.schema.specs.union_ids.Ids as Ids
 use Rattle.schema.specs.Tree as Tree
+use Rattle.array_data.specs.NodeKinds.{kindAt}
 use Rattle.array_data.specs.Typed.{placed, tablesFrom}
-use Rattle.array_data.specs.type_tree.Lent.{kindAt, tyOf, treeOf}
+use Rattle.array_data.specs.type_tree.Lent.{tyOf, treeOf}
 use Rattle.model.specs.Try.{done, stop, guard, after}
 use Rattle.model.specs.Grounds.{Counts, rowsOf, bytesOf, startCounts}
 use Rattle.model.specs.Book.{Call, copy, answer}
@@ -101,11 +102,11 @@ abbrev Taken : Lending → Type 0
 Taken l = Grounds.sourcesGround (l .formats) (l .schema) (l .tables) (l .sources) ≡ 0
 
 narrow-taken : Taken narrow
-unfolding Grounds.smallBody Grounds.fewSources Grounds.allWithin Grounds.allTyped Grounds.allSame Grounds.allObey Grounds.withinCeilings Grounds.nodeFits Grounds.countFits Grounds.fewBuffers Grounds.obeys Tree.ceilings Tree.fewFields Tree.codeOf Tree.idsOf Code.codeOf Tree.depth Tree.endOf Tree.endFrom Tree.dueFrom Tree.below Tree.bare Tree.typed Tree.whole Tree.shape Tree.leafShape Tree.keysShape Tree.valuesShape Tree.listShape Tree.unionShape Tree.runShape Tree.endsShape Tree.sameType Tree.sameNode Tree.sameFormats Tree.sameFlag Tree.isValues kindAt item number bit
+unfolding Grounds.smallBody Grounds.fewSources Grounds.allWithin Grounds.allTyped Grounds.allSame Grounds.allObey Grounds.withinCeilings Grounds.nodeFits Grounds.countFits Grounds.fewBuffers Grounds.obeys Tree.ceilings Tree.fewFields Tree.codeOf Tree.idsOf Code.codeOf Tree.depth Tree.endOf Tree.endFrom Tree.below Tree.bare Tree.typed Tree.whole Tree.shape Tree.leafShape Tree.keysShape Tree.valuesShape Tree.listShape Tree.unionShape Tree.runShape Tree.endsShape Tree.sameType Tree.sameNode Tree.sameFormats Tree.sameFlag Tree.isValues kindAt item number bit
 narrow-taken = by-nodes (narrow .formats) (narrow .schema) (narrow .tables) (narrow .sources)
 
 wide-taken : Taken wide
-unfolding Grounds.smallBody Grounds.fewSources Grounds.allWithin Grounds.allTyped Grounds.allSame Grounds.allObey Grounds.withinCeilings Grounds.nodeFits Grounds.countFits Grounds.fewBuffers Grounds.obeys Tree.ceilings Tree.fewFields Tree.codeOf Tree.idsOf Code.codeOf Tree.depth Tree.endOf Tree.endFrom Tree.dueFrom Tree.below Tree.bare Tree.typed Tree.whole Tree.shape Tree.leafShape Tree.keysShape Tree.valuesShape Tree.listShape Tree.unionShape Tree.runShape Tree.endsShape Tree.sameType Tree.sameNode Tree.sameFormats Tree.sameFlag Tree.isValues kindAt item number bit
+unfolding Grounds.smallBody Grounds.fewSources Grounds.allWithin Grounds.allTyped Grounds.allSame Grounds.allObey Grounds.withinCeilings Grounds.nodeFits Grounds.countFits Grounds.fewBuffers Grounds.obeys Tree.ceilings Tree.fewFields Tree.codeOf Tree.idsOf Code.codeOf Tree.depth Tree.endOf Tree.endFrom Tree.below Tree.bare Tree.typed Tree.whole Tree.shape Tree.leafShape Tree.keysShape Tree.valuesShape Tree.listShape Tree.unionShape Tree.runShape Tree.endsShape Tree.sameType Tree.sameNode Tree.sameFormats Tree.sameFlag Tree.isValues kindAt item number bit
 wide-taken = by-nodes (wide .formats) (wide .schema) (wide .tables) (wide .sources)
 
 -- ---- the plan's words for one byte string that keeps nulls

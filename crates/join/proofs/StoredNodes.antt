@@ -8,11 +8,10 @@ use lib.Dec.{T, eqb}
 use borrow.Author.Tests.{eqb-true}
 use Rattle.columnar.specs.Wider.{integer}
 use Rattle.schema.specs.formats.Code.{between, isInteger, isRunEnd}
-use Rattle.schema.specs.formats.Types.{numberOf}
+use Rattle.schema.specs.formats.Types.{numberOf, numberOr}
 use Rattle.schema.specs.Tree.{children, dictionary, below, bare, endOf, childAt, whole}
 use Rattle.schema.proofs.Trees.{child-inside, end-after, end-inside}
 use Rattle.schema.proofs.Depth.{nested, child-before}
-use Rattle.array_data.specs.type_tree.Lent.{numberOr}
 use Rattle.array_data.proofs.type_tree.Ids.{both}
 use Rattle.join.proofs.StoredCodes.{range}
 

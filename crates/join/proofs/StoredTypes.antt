@@ -13,14 +13,16 @@ use Rattle.columnar.specs.Types.{Number, limit, Plain, fixed, string}
 use Rattle.columnar.specs.Wider.{Declared, KeyWider, PlainWider, wFixed, wString, Wider, wPlain, wView, wListView, wList, wSparse, wDense, wRunEnd, wDictionary}
 use Rattle.columnar.proofs.Test.{member-agrees}
 use Rattle.schema.specs.formats.Code.{between, isInteger, isFixed, isString, isView, isListView, isList, isUnion, isRunEnd, widthOf}
-use Rattle.schema.specs.formats.Types.{numberOf}
+use Rattle.schema.specs.formats.Types.{numberOf, numberOr}
 use Rattle.schema.specs.Tree.{children, dictionary, below, bare, childForEach, isValues, endOf, childAt, depth, whole, codeOf, idsOf, valuesShape, endsShape, leafShape, keysShape, listShape, unionShape, runShape, shape, ceilings, typed}
 use Rattle.schema.proofs.Trees.{child-inside, child-is, end-up}
 use Rattle.schema.proofs.Depth.{child-depth}
 use Rattle.schema.proofs.Known.{typed-whole, typed-shape, within-depth}
 use Rattle.array_data.specs.Tables.{Tables}
-use Rattle.array_data.specs.Typed.{NodeKind, fixedNode, viewNode, listViewNode, listNode, sparseNode, denseNode, runEndNode, dictionaryNode, Tree, childNode, fieldOf}
-use Rattle.array_data.specs.type_tree.Lent.{numberOr, kindAt, treeOf, plainAs, tyAs, tyOf, typeOf}
+use Rattle.array_data.proofs.type_tree.ByKind.{plainAs, tyAs, type-as}
+use Rattle.array_data.specs.NodeKinds.{NodeKind, fixedNode, viewNode, listViewNode, listNode, sparseNode, denseNode, runEndNode, dictionaryNode, kindAt}
+use Rattle.array_data.specs.Typed.{Tree, childNode, fieldOf, nullableIn}
+use Rattle.array_data.specs.type_tree.Lent.{treeOf, tyOf, typeOf}
 use Rattle.array_data.proofs.type_tree.Ids.{both, field-in}
 use Rattle.array_data.proofs.type_tree.Shaped.{five, integer-fixed, plainKind, at-fixed, at-keys, at-string, at-view, at-list, at-lists, at-union, at-run}
 use Rattle.array_data.proofs.type_tree.Lent.{child-same, first-child, second-child, some-node, root}
@@ -280,7 +282,7 @@ module _ (formats schema : List ℕ) (x : Tables) (first : ℕ) (formats′ sche
 
     -- a union's field: its flag and its type
     field-wider : (f i : ℕ) → i < n → eqb (dictionary schema first i) 1 ≡ false → (j : ℕ) → j < below schema first i → WiderFrom f (childAt schema first n i j)
-        → (here .nullable (childNode here i j) ≡ there .nullable (childNode there i j)) × Wider (tyOf here f (childNode here i j)) (tyOf there f (childNode there i j))
+        → (nullableIn here (childNode here i j) ≡ nullableIn there (childNode there i j)) × Wider (tyOf here f (childNode here i j)) (tyOf there f (childNode there i j))
     field-wider f i l s j h m =
         let k = childAt schema first n i j in
         let a = child-same formats schema first n i j in
@@ -288,7 +290,7 @@ module _ (formats schema : List ℕ) (x : Tables) (first : ℕ) (formats′ sche
         let v : isValues schema first k ≡ false = values-are k ∙ prev-child schema first n w (λ m. eqb (dictionary schema first m) 1) (λ m l q. keys-below m (eqb-true _ 1 q)) i j l h s in
         let up : i < k = child-up i j l in
         let g = nodes k (child-inside schema first n w i j l h) .same-flag (λ z. omega arith) v in (
-          sym (ap (here .nullable) a) ∙ ap (λ z. eqb z 1) g ∙ ap (there .nullable) b,
+          sym (ap (nullableIn here) a) ∙ ap (λ z. eqb z 1) g ∙ ap (nullableIn there) b,
           subst (λ z. Wider (tyOf here f z) (tyOf there f (childNode there i j))) a (subst (λ z. Wider (tyOf here f k) (tyOf there f z)) b m),
         )
 
@@ -300,8 +302,8 @@ module _ (formats schema : List ℕ) (x : Tables) (first : ℕ) (formats′ sche
     plain-type f i (wFixed m) = wPlain (wFixed m)
     plain-type f i (wString v v′ h) = wPlain (wString v v′ h)
 
-    moved : (f i : ℕ) {k k′ : NodeKind} → kind i ≡ k → kind′ i ≡ k′ → WiderAs f i k k′ → WiderAs f i (kind i) (kind′ i)
-    moved f i {k} {k′} e e′ h = subst (λ z. WiderAs f i z (kind′ i)) (sym e) (subst (λ z. WiderAs f i k z) (sym e′) h)
+    moved : (f i : ℕ) {k k′ : NodeKind} → kind i ≡ k → kind′ i ≡ k′ → WiderAs f i k k′ → WiderFrom (suc f) i
+    moved f i {k} {k′} e e′ h = subst (λ u. Wider u (tyOf there (suc f) i)) (sym (type-as here f i e)) (subst (Wider (tyAs here (tyOf here f) k i)) (sym (type-as there f i e′)) h)
 
     -- the runs of a tree have something below them
     module _ (shapes : (i : ℕ) → i < n → shape formats schema first i ≡ true) where
@@ -344,7 +346,6 @@ module _ (formats schema : List ℕ) (x : Tables) (first : ℕ) (formats′ sche
       not-ended-later i j l h = ended-is (childAt schema first n i (suc j)) ∙ prev-later schema first n w (λ m. isRunEnd (code m)) run-big i j l h
 
       types-by : (f i : ℕ) → i < n → Kinds i → ((j : ℕ) → j < below schema first i → ended (childAt schema first n i j) ≡ false → WiderFrom f (childAt schema first n i j)) → WiderFrom (suc f) i
-      unfolding tyOf
       types-by f i l (k-plain a) kid = moved f i (a .here) (a .there) (plain-type f i (a .wider))
       types-by f i l (k-view e e′) kid = moved f i e e′ wView
       types-by f i l (k-list v v′ r e e′ b o) kid =

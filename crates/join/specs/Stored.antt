@@ -7,11 +7,11 @@ use Prim.Native.Nat.{ℕ, zero, suc, _+_, _≤_, _<_}
 use lib.Dec.{T, eqb}
 use Rattle.columnar.specs.Types.{limit}
 use Rattle.schema.specs.formats.Code.{isInteger, isString, isView, isListView, isList, isUnion, isRunEnd, widthOf}
-use Rattle.schema.specs.formats.Types.{numberOf}
+use Rattle.schema.specs.formats.Types.{numberOf, numberOr}
 use Rattle.schema.specs.Tree.{flag, children, dictionary, isValues, codeOf, idsOf, sameFormats}
 use Rattle.array_data.specs.Tables.{Tables, lengthOf, offsetOf, place}
 use Rattle.array_data.specs.Typed.{tablesFrom, placed}
-use Rattle.array_data.specs.type_tree.Lent.{numberOr, treeOf}
+use Rattle.array_data.specs.type_tree.Lent.{treeOf}
 use Rattle.columns.specs.Grounds.{smallBody}
 use Rattle.array_data.specs.Sources.{firstOf, nodesOf}
 use Rattle.join.specs.Join.{Lending, sourcesIn}

@@ -1,5 +1,5 @@
 -- No walk reads the parts: they only say where its log goes. Assumes nothing.
-use mathlib.Core.Path.{_≡_, refl, ap, fun-ext, _∙_}
+use mathlib.Core.Path.{_≡_, refl, ap, sym, fun-ext, _∙_}
 use mathlib.Core.Bool.{cond, _&&_}
 use mathlib.Core.List.{List}
 use Prim.Native.Nat.{ℕ, zero, suc, _+_, _*_}
@@ -17,6 +17,7 @@ use Rattle.walk.specs.Leaves.{copyBits, copyMask, copyNumbers, copyKeys, copyVi
 use Rattle.walk.specs.Copy.{Walk, masked, isWidth, listViewRow, copyListView, putStretch, copyList, copySparse, denseTo, denseRow, copyDense, putRuns, runsAt, copyRuns, copyData, copySlots, copyNode, copyWalk, eachField}
 use Rattle.leaf_walk.specs.Join.{join}
 use Rattle.walk.proofs.Names.{putList, copyFields}
+use Rattle.walk.proofs.Offsets.{string-is, list-is}
 
 module _ (plan parts parts2 lengths places body : List ℕ) (first source : ℕ) where
   abbrev one : Join
@@ -38,10 +39,12 @@ module _ (plan parts parts2 lengths places body : List ℕ) (first source : ℕ)
   extended-same i w from n Falls c = refl
 
   string-same : (i w slot n : ℕ) (c : List ℕ) → copyString one i w slot n c ≡ copyString other i w slot n c
-  unfolding copyString rowsIn
+  unfolding rowsIn
   string-same i w slot n c =
-      ap (λ z. cond (eqb n 0) (done c) (need (rowsIn one (place one i 3) w slot (suc n)) 12 c z))
+      string-is one i w slot n c
+      ∙ ap (λ z. cond (eqb n 0) (done c) (need (rowsIn one (place one i 3) w slot (suc n)) 12 c z))
       (extended-same i w (place one i 3 + w * slot) n (extended w body (place one i 3 + w * slot) n (bytes c i)) c)
+      ∙ sym (string-is other i w slot n c)
 
   -- ---- nodes with children
 
@@ -57,10 +60,12 @@ module _ (plan parts parts2 lengths places body : List ℕ) (first source : ℕ)
     stretch-same w i from n Falls c = refl
 
     lists-same : (w i slot n : ℕ) (c : List ℕ) → copyList one child w i slot n c ≡ copyList other child w i slot n c
-    unfolding copyList rowsIn
+    unfolding rowsIn
     lists-same w i slot n c =
-        ap (λ z. cond (eqb n 0) (done c) (need (ltb (suc i) 32) 12 c (need (rowsIn one (place one i 3) w slot (suc n)) 12 c z)))
+        list-is one child w i slot n c
+        ∙ ap (λ z. cond (eqb n 0) (done c) (need (ltb (suc i) 32) 12 c (need (rowsIn one (place one i 3) w slot (suc n)) 12 c z)))
         (stretch-same w i (place one i 3 + w * slot) n (extended w body (place one i 3 + w * slot) n (rows c (suc i))) c)
+        ∙ sym (list-is other child w i slot n c)
 
     fields-same : (slot n end f k : ℕ) (c : List ℕ) → copyFields one child slot n end f k c ≡ copyFields other child slot n end f k c
     unfolding eachField

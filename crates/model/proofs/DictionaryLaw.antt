@@ -11,7 +11,7 @@ use lib.Dec.{T, ltb, eqb}
 use borrow.Author.Tests.{ltb-true, eqb-true}
 use Rattle.number.specs.Number.{encode}
 use Rattle.columnar.specs.Row.{Row, null, seg}
-use Rattle.columnar.specs.Types.{Number, i8, u8, i16, u16, i32, u32, i64, u64, f32, f64, width, limit, Plain, tDictionary}
+use Rattle.columnar.specs.Types.{Number, int, uint, w1, w2, w4, w8, f32, f64, width, limit, Plain, tDictionary}
 use Rattle.columnar.specs.Array.{Array, item, ok, readWith, Obeys}
 use Rattle.columnar.specs.Entries.{encodes}
 use Rattle.columnar.specs.Plain.{PlainBody, PlainRule}
@@ -163,14 +163,14 @@ whole k p m ds g o h =
 -- ---- keys
 
 limit-fits : (k : Number) → limit k ≤ 256 ^ width k
-limit-fits i8 = omega arith
-limit-fits u8 = omega arith
-limit-fits i16 = omega arith
-limit-fits u16 = omega arith
-limit-fits i32 = omega arith
-limit-fits u32 = omega arith
-limit-fits i64 = omega arith
-limit-fits u64 = omega arith
+limit-fits (int w1) = omega arith
+limit-fits (uint w1) = omega arith
+limit-fits (int w2) = omega arith
+limit-fits (uint w2) = omega arith
+limit-fits (int w4) = omega arith
+limit-fits (uint w4) = omega arith
+limit-fits (int w8) = omega arith
+limit-fits (uint w8) = omega arith
 limit-fits f32 = omega arith
 limit-fits f64 = omega arith
 

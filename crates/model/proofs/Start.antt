@@ -1,15 +1,14 @@
 -- A destination with no rows is well formed, keeps nulls as it should, and holds nothing. Assumes nothing.
 use mathlib.Core.Path.{_≡_, refl, sym, ap, _∙_, fun-ext}
-use mathlib.Core.Bool.{Bool, true, false, cond, _||_}
+use mathlib.Core.Bool.{Bool, true, false, not, cond, _||_}
 use mathlib.Core.Option.{Option, none, some}
 use mathlib.Core.List.{List, [], _∷_, _++_, List·Memᴰ, append-nil}
 use Prim.Native.Nat.{ℕ, zero, suc, _+_, _*_, _^_, _/_, _≤_, _<_}
 use native.Mathlib.Nat.{zero-mul, one-mul, add-zero}
-use native.Mathlib.Decide.{decLt}
 use native.Mathlib.Omega.{arith}
 use lib.ListN.{length}
-use lib.Dec.{ltb}
-use borrow.Author.Tests.{ltb-false}
+use lib.Dec.{T, eqb}
+use borrow.Author.Tests.{eqb-true}
 use Rattle.number.specs.Number.{encode}
 use Rattle.number.proofs.Laws.{length-encode}
 use Rattle.columnar.specs.Types.{half, Plain, fixed, string, Ty, tPlain, tView, tListView, tList, tSparse, tDense, tRunEnd, tDictionary}
@@ -18,7 +17,8 @@ use Rattle.columnar.specs.Array.{Array, ok, nullsIn, nullCount}
 use Rattle.columnar.specs.Plain.{PlainBody}
 use Rattle.columnar.specs.Reading.{Body, Column, masks}
 use Rattle.columnar.proofs.Items.{item-last}
-use Rattle.model.specs.Opening.{anyNull, keeps}
+use Rattle.columnar.proofs.Test.{every-out}
+use Rattle.model.specs.Opening.{keeps}
 use Rattle.model.specs.Grounds.{Counts, counts, leaf, among, startCounts}
 use Rattle.model.specs.Mutable.{Mutable, keepsBits, startNode}
 use Rattle.model.specs.Primitive.{plainStart}
@@ -26,6 +26,7 @@ use Rattle.model.specs.Transform.{startData, start}
 use Rattle.model.specs.Held.{heldNode, heldPlain, heldData, held}
 use Rattle.model.proofs.Law.{BitsFor, CountFor, FineNode, KeepNode, bitAt}
 use Rattle.model.proofs.Nodes.{OffsetsFine, plainFine, fineOf, keepOf}
+use Rattle.columnar.specs.Test.{every}
 
 -- ---- no null at a node
 
@@ -38,23 +39,20 @@ no-null-in f a (suc n) e zero q = rw add-zero (go (f a) (omega arith))
     go false h = absurd (omega arith)
 no-null-in f a (suc n) e (suc i) q = let s : suc a + i ≡ a + suc i = omega arith in ap f (sym s) ∙ no-null-in f (suc a) n (omega arith) i (omega arith)
 
-or-left : (a b : Bool) → a || b ≡ false → a ≡ false
-or-left true b e = e
-or-left false b e = refl
-
 or-right : (a b : Bool) → a || b ≡ false → b ≡ false
 or-right true b e = absurd (let z : true ≡ false = e in let y : _≡_ {A = ℕ} 0 1 = cc in omega arith)
 or-right false b e = e
 
-pub none-has : {B : Type 0} (m : ℕ) (xs : ℕ → Array B) → anyNull m xs ≡ false → (j : ℕ) → j < m → nullCount (xs j) ≡ 0
-none-has zero xs e j q = absurd (omega arith)
-none-has (suc m) xs e j q = go (decLt j m) (none-has m xs (or-left (anyNull m xs) _ e) j)
-  where
-    go : Dec (j < m) → (j < m → nullCount (xs j) ≡ 0) → nullCount (xs j) ≡ 0
-    go (yes p) f = f p
-    go (no p) f =
-        let z : j ≡ m = omega arith in
-        rw z (omega (arith, ltb-false 0 (nullCount (xs m)) (or-right (anyNull m xs) _ e)))
+holds : (b : Bool) → not b ≡ false → T b
+holds true e = tt
+holds false e = absurd (let z : true ≡ false = e in let y : _≡_ {A = ℕ} 0 1 = cc in omega arith)
+
+is-true : (b : Bool) → T b → b ≡ true
+is-true true h = refl
+is-true false h = absurd h
+
+pub none-has : {B : Type 0} (m : ℕ) (xs : ℕ → Array B) → keeps false m xs ≡ false → (j : ℕ) → j < m → nullCount (xs j) ≡ 0
+none-has m xs e j q = eqb-true (nullCount (xs j)) 0 (is-true _ (every-out (λ i. eqb (nullCount (xs i)) 0) m (holds (every (λ i. eqb (nullCount (xs i)) 0) m) e) j q))
 
 -- ---- a node with no rows
 
@@ -81,7 +79,7 @@ start-node masks u fine m xs d h =
       bits-are = start-bits masks (keeps u m xs);
       count-is = start-count masks (keeps u m xs);
       no-nulls = λ e j hj i q.
-          no-null-in (ok (xs j .valid)) (xs j .off) (xs j .len) (none-has m xs (or-right u (anyNull m xs) (kept-none (keeps u m xs) e)) j hj) i q;
+          no-null-in (ok (xs j .valid)) (xs j .off) (xs j .len) (none-has m xs (or-right u (keeps false m xs) (kept-none (keeps u m xs) e)) j hj) i q;
       data-fine = h _;
     }
 

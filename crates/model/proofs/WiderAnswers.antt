@@ -1,36 +1,37 @@
 -- Orders over sources stored wider: accepted again, with the same counts, rows and nulls. Assumes nothing.
 use mathlib.Core.Path.{_≡_, refl, ap, ap₂}
-use mathlib.Core.Bool.{Bool, true, false, _&&_, _||_}
+use mathlib.Core.Bool.{Bool, true, false, not, _&&_, _||_}
 use Prim.Native.Nat.{ℕ, zero, suc, _+_, _-_, _≤_, _<_}
 use native.Mathlib.Nat.{add-assoc}
 use native.Mathlib.Omega.{arith}
-use lib.Dec.{ltb, leb}
+use lib.Dec.{ltb, leb, eqb}
 use lib.ListN.{replicate}
 use borrow.Author.Tests.{ltb-true, leb-true}
 use Rattle.columnar.specs.Types.{Ty}
-use Rattle.columnar.specs.Array.{Array, ok}
+use Rattle.columnar.specs.Array.{Array, ok, nullCount}
 use Rattle.columnar.specs.Reading.{Column, read, Source}
 use Rattle.columnar.specs.Wider.{Wider, Kept, Again}
 use Rattle.columnar.proofs.Kept.{seg-same, nulls-in-same, ok-kept, nulls-kept}
 use Rattle.columnar.proofs.Wider.{reads-same}
 use Rattle.model.specs.Try.{done}
 use Rattle.model.specs.Grounds.{Counts}
-use Rattle.model.specs.Opening.{anyNull, keeps}
+use Rattle.model.specs.Opening.{keeps}
 use Rattle.model.specs.Book.{Call, copy, nulls, answer, entered, nullsEntered}
 use Rattle.model.proofs.Follow.{Follows, follows-done, follows-when, guard-done}
 use Rattle.model.proofs.WiderAsks.{copy-again, ask-nulls-again, null-row-wider}
+use Rattle.columnar.specs.Test.{every}
 
 -- ---- a node keeps nulls in both or in neither
 
-any-null-kept : {B B′ : Type 0} {same : (ℕ → Bool) → B → B′ → ℕ → ℕ → Type 0} (m : ℕ) (xs : ℕ → Array B) (xs′ : ℕ → Array B′)
-    → ((j : ℕ) → j < m → Kept same (xs j) (xs′ j)) → anyNull m xs ≡ anyNull m xs′
-any-null-kept zero xs xs′ h = refl
-any-null-kept (suc m) xs xs′ h =
-    ap₂ _||_ (any-null-kept m xs xs′ (λ j q. h j (omega arith))) (ap (λ c. ltb 0 c) (nulls-kept (h m (omega arith))))
+no-null-kept : {B B′ : Type 0} {same : (ℕ → Bool) → B → B′ → ℕ → ℕ → Type 0} (m : ℕ) (xs : ℕ → Array B) (xs′ : ℕ → Array B′)
+    → ((j : ℕ) → j < m → Kept same (xs j) (xs′ j)) → every (λ i. eqb (nullCount (xs i)) 0) m ≡ every (λ i. eqb (nullCount (xs′ i)) 0) m
+no-null-kept zero xs xs′ h = refl
+no-null-kept (suc m) xs xs′ h =
+    ap₂ _&&_ (no-null-kept m xs xs′ (λ j q. h j (omega arith))) (ap (λ c. eqb c 0) (nulls-kept (h m (omega arith))))
 
 pub keeps-wider : {B B′ : Type 0} {same : (ℕ → Bool) → B → B′ → ℕ → ℕ → Type 0} (u : Bool) (m : ℕ) (xs : ℕ → Array B) (xs′ : ℕ → Array B′)
     → ((j : ℕ) → j < m → Kept same (xs j) (xs′ j)) → keeps u m xs ≡ keeps u m xs′
-keeps-wider u m xs xs′ h = ap (u ||_) (any-null-kept m xs xs′ h)
+keeps-wider u m xs xs′ h = ap (λ b. u || not b) (no-null-kept m xs xs′ h)
 
 -- ---- one order
 

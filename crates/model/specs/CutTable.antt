@@ -4,7 +4,7 @@ use mathlib.Core.Bool.{false}
 use mathlib.Core.Option.{none}
 use mathlib.Core.List.{List, [], _∷_}
 use Prim.Native.Nat.{ℕ}
-use Rattle.columnar.specs.Types.{u8, fixed, Ty, tPlain, tListView, tList, tRunEnd}
+use Rattle.columnar.specs.Types.{uint, w1, fixed, Ty, tPlain, tListView, tList, tRunEnd}
 use Rattle.columnar.specs.Reading.{Column}
 use Rattle.model.specs.Try.{Try, done, mapTry}
 use Rattle.model.specs.Book.{Call, copy}
@@ -13,7 +13,7 @@ use Rattle.model.specs.Table.{coded, whole, sources, joined, k123}
 
 -- one run of two rows, each the list of two rows in two runs
 abbrev pub nested : Ty
-nested = tRunEnd 4 (tListView 4 (tRunEnd 4 (tPlain (fixed u8))))
+nested = tRunEnd 4 (tListView 4 (tRunEnd 4 (tPlain (fixed (uint w1)))))
 
 abbrev pub runOfLists : Column nested
 runOfLists =
@@ -37,7 +37,7 @@ ofLists os = mapTry runsCounted (joined false nested false 1 (sources runOfLists
 
 -- two lists that begin and end inside one run: the child is copied in one stretch
 abbrev pub overRuns : Ty
-overRuns = tList 4 (tRunEnd 4 (tPlain (fixed u8)))
+overRuns = tList 4 (tRunEnd 4 (tPlain (fixed (uint w1))))
 
 abbrev pub listsOfRun : Column overRuns
 listsOfRun = whole 2 (record { offsets = coded 4 (0 ∷ 2 ∷ 4 ∷ []); child = whole 4 (record { ends = whole 1 (coded 4 (4 ∷ [])); values = whole 1 (65 ∷ []) }) })
@@ -47,7 +47,7 @@ ofRun os = mapTry (λ (d : Destination overRuns). d .«data» .child .«data» .
 
 -- one run of two rows, each the list of two rows in two runs
 abbrev pub deep : Ty
-deep = tRunEnd 4 (tList 4 (tRunEnd 4 (tPlain (fixed u8))))
+deep = tRunEnd 4 (tList 4 (tRunEnd 4 (tPlain (fixed (uint w1)))))
 
 abbrev pub runOfPlain : Column deep
 runOfPlain =

@@ -1,9 +1,9 @@
 -- What an opening settles before the first order: which nodes keep nulls, and which dictionaries are shared (01: "A node keeps
 -- nulls if ..", "Two dictionaries are shared if ..", ground 8). Assumes nothing.
-use mathlib.Core.Bool.{Bool, true, false, cond, _&&_, _||_}
+use mathlib.Core.Bool.{Bool, true, not, cond, _&&_, _||_}
 use mathlib.Core.Option.{none}
 use Prim.Native.Nat.{ℕ, zero, suc, _+_, _-_, _^_}
-use lib.Dec.{leb, ltb, eqb}
+use lib.Dec.{leb, eqb}
 use Rattle.columnar.specs.Types.{Number, keyFits}
 use Rattle.columnar.specs.Array.{Array, nullCount}
 use Rattle.columnar.specs.Dictionary.{Dictionary}
@@ -14,14 +14,9 @@ use Rattle.columnar.specs.Test.{every, same}
 abbrev pub present : {B : Type 0} → Array B → Array B
 present x = record { len = x .len; off = x .off; valid = cond (eqb (nullCount x) 0) none (x .valid); body = x .body }
 
--- one of the first m has a null among its rows
-abbrev pub anyNull : {B : Type 0} → ℕ → (ℕ → Array B) → Bool
-anyNull zero xs = false
-anyNull (suc m) xs = anyNull m xs || ltb 0 (nullCount (xs m))
-
--- "A node keeps nulls if the caller says so or any source has a null at that node"
+-- "A node keeps nulls if the caller says so or any source has a null at that node": one of the first m has a null among its rows
 abbrev pub keeps : {B : Type 0} → Bool → ℕ → (ℕ → Array B) → Bool
-keeps u m xs = u || anyNull m xs
+keeps u m xs = u || not (every (λ i. eqb (nullCount (xs i)) 0) m)
 
 -- "same offset, length, type and start positions, validity likewise": the types are the same already
 abbrev pub ptrEq : {P : Type 0} → Dictionary P → Dictionary P → Bool

@@ -6,7 +6,7 @@ use Prim.Native.Nat.{ℕ, zero, suc, _+_, _*_}
 use lib.ListN.{replicate}
 use Rattle.number.specs.Number.{encode}
 use Rattle.columnar.specs.Row.{seg}
-use Rattle.columnar.specs.Types.{Number, i8, u8, i32, Plain, fixed, string, Ty, tPlain, tListView, tList, tDense, tRunEnd, tDictionary}
+use Rattle.columnar.specs.Types.{Number, int, uint, w1, Plain, fixed, string, Ty, tPlain, tListView, tList, tDense, tRunEnd, tDictionary}
 use Rattle.columnar.specs.Array.{Array, item, nullCount}
 use Rattle.columnar.specs.Plain.{Text}
 use Rattle.columnar.specs.ListView.{ListView}
@@ -56,7 +56,7 @@ module _ (gaps : Bool) (t : Ty) (keep : Bool) (m : ℕ) (ss : ℕ → Column t) 
 -- ---- run ends: K1 to K4
 
 -- run ends 2, 5, 9, values A B C, offset 1, length 8
-abbrev pub runs129 : Column (tRunEnd 4 (tPlain (fixed u8)))
+abbrev pub runs129 : Column (tRunEnd 4 (tPlain (fixed (uint w1))))
 runs129 = record { len = 8; off = 1; valid = none; body = record { ends = whole 3 (coded 4 (2 ∷ 5 ∷ 9 ∷ [])); values = whole 3 (65 ∷ 66 ∷ 67 ∷ []) } }
 
 -- bits, where they are kept
@@ -69,19 +69,19 @@ keptBits none = []
 keptBits (some l) = shownBits l
 
 -- its run ends, then its values, then the values' bits, then how many nulls are counted
-abbrev pub runsShown : (w : ℕ) → Destination (tRunEnd w (tPlain (fixed u8))) → List ℕ
+abbrev pub runsShown : (w : ℕ) → Destination (tRunEnd w (tPlain (fixed (uint w1)))) → List ℕ
 runsShown w d =
     decoded w (d .«data» .ends .«data») (d .«data» .ends .len) ++ d .«data» .values .«data» ++ keptBits (d .«data» .values .bits) ++ (d .null_count ∷ [])
 
 abbrev pub k123 : Bool → List Call → Try (List ℕ)
-k123 gaps os = mapTry (runsShown 4) (joined gaps (tRunEnd 4 (tPlain (fixed u8))) true 1 (sources runs129 []) os)
+k123 gaps os = mapTry (runsShown 4) (joined gaps (tRunEnd 4 (tPlain (fixed (uint w1)))) true 1 (sources runs129 []) os)
 
 -- one run of 32,767 rows, value 9
-abbrev pub runLong : Column (tRunEnd 2 (tPlain (fixed u8)))
+abbrev pub runLong : Column (tRunEnd 2 (tPlain (fixed (uint w1))))
 runLong = record { len = 32767; off = 0; valid = none; body = record { ends = whole 1 (coded 2 (32767 ∷ [])); values = whole 1 (9 ∷ []) } }
 
 abbrev pub k4 : ℕ → Try (List ℕ)
-k4 n = mapTry (runsShown 2) (joined false (tRunEnd 2 (tPlain (fixed u8))) false 1 (sources runLong []) (copy 0 0 32766 ∷ copy 0 0 n ∷ []))
+k4 n = mapTry (runsShown 2) (joined false (tRunEnd 2 (tPlain (fixed (uint w1)))) false 1 (sources runLong []) (copy 0 0 32766 ∷ copy 0 0 n ∷ []))
 
 -- ---- byte strings: K5, K6
 
@@ -103,29 +103,29 @@ k56 os = mapTry textShown (joined false (tPlain (string 4)) true 2 (sources vans
 -- ---- dictionaries: K7 to K10
 
 -- one key, over n entries of one byte that begin at a place of their own and have no validity
-abbrev pub keyed : (k : Number) → Option (List ℕ) → ℕ → ℕ → ℕ → Column (tDictionary k (fixed u8))
+abbrev pub keyed : (k : Number) → Option (List ℕ) → ℕ → ℕ → ℕ → Column (tDictionary k (fixed (uint w1)))
 keyed k v key n place = record { len = 1; off = 0; valid = v; body = record { keys = key ∷ []; values = whole n (replicate n 0); starts = 0 ∷ place ∷ [] } }
 
 -- the first source has key 0, or under a null where it has no entry; the second one's row is copied
-abbrev pub firstKeyed : (k : Number) → ℕ → Column (tDictionary k (fixed u8))
+abbrev pub firstKeyed : (k : Number) → ℕ → Column (tDictionary k (fixed (uint w1)))
 firstKeyed k zero = keyed k (some (0 ∷ [])) 0 0 0
 firstKeyed k (suc n) = keyed k none 0 (suc n) 0
 
 abbrev pub k79 : (k : Number) → Option (List ℕ) → ℕ → ℕ → ℕ → Try (List ℕ)
 k79 k v n key n′ =
-    mapTry (λ (d : Destination (tDictionary k (fixed u8))). d .«data»)
-    (joined false (tDictionary k (fixed u8)) false 2 (sources (firstKeyed k n) (keyed k v key n′ 1000 ∷ [])) (copy 1 0 1 ∷ []))
+    mapTry (λ (d : Destination (tDictionary k (fixed (uint w1)))). d .«data»)
+    (joined false (tDictionary k (fixed (uint w1))) false 2 (sources (firstKeyed k n) (keyed k v key n′ 1000 ∷ [])) (copy 1 0 1 ∷ []))
 
 -- ---- one dictionary that both sources share: K16
 
 -- n entries that begin at the same place in both sources; the second one's row, of the last key, is copied
 abbrev pub k16 : ℕ → ℕ → Try (List ℕ)
 k16 n key =
-    mapTry (λ (d : Destination (tDictionary u8 (fixed u8))). d .«data»)
-    (joined false (tDictionary u8 (fixed u8)) false 2 (sources (keyed u8 none 0 n 1000) (keyed u8 none key n 1000 ∷ [])) (copy 1 0 1 ∷ []))
+    mapTry (λ (d : Destination (tDictionary (uint w1) (fixed (uint w1)))). d .«data»)
+    (joined false (tDictionary (uint w1) (fixed (uint w1))) false 2 (sources (keyed (uint w1) none 0 n 1000) (keyed (uint w1) none key n 1000 ∷ [])) (copy 1 0 1 ∷ []))
 
 -- two entries, the second null, whose validity begins at a place of its own
-abbrev pub maskedAt : ℕ → Column (tDictionary u8 (fixed u8))
+abbrev pub maskedAt : ℕ → Column (tDictionary (uint w1) (fixed (uint w1)))
 maskedAt place =
     record {
       len = 1;
@@ -137,13 +137,13 @@ maskedAt place =
 -- the entries begin at the same place; their validity at these
 abbrev pub k16masked : ℕ → ℕ → Try (List ℕ)
 k16masked first second =
-    mapTry (λ (d : Destination (tDictionary u8 (fixed u8))). d .«data»)
-    (joined false (tDictionary u8 (fixed u8)) false 2 (sources (maskedAt first) (maskedAt second ∷ [])) (copy 1 0 1 ∷ []))
+    mapTry (λ (d : Destination (tDictionary (uint w1) (fixed (uint w1)))). d .«data»)
+    (joined false (tDictionary (uint w1) (fixed (uint w1))) false 2 (sources (maskedAt first) (maskedAt second ∷ [])) (copy 1 0 1 ∷ []))
 
 -- ---- a dictionary with a null entry: K17
 
 abbrev pub named : Ty
-named = tDictionary u8 (string 4)
+named = tDictionary (uint w1) (string 4)
 
 -- keys 0, 1, 2 of the entries Ana, null and Bo; and the same behind another key and another entry, at offset 1
 abbrev pub drivers : Column named
@@ -186,47 +186,47 @@ k17 x y = let ss = sources x (y ∷ []) in mapTry (keysShown ss) (joined false n
 -- ---- list-views: K11
 
 -- over a child of 10 rows; and one row that is all of such a child
-abbrev pub listsOf : ℕ → List ℕ → List ℕ → Column (tListView 4 (tPlain (fixed u8)))
+abbrev pub listsOf : ℕ → List ℕ → List ℕ → Column (tListView 4 (tPlain (fixed (uint w1))))
 listsOf n offsets sizes = whole n (record { offsets = coded 4 offsets; sizes = coded 4 sizes; child = whole 10 (seg (λ i. i) 0 10) })
 
 -- offsets 4, 0, sizes 2, 3
-abbrev pub lists : Column (tListView 4 (tPlain (fixed u8)))
+abbrev pub lists : Column (tListView 4 (tPlain (fixed (uint w1))))
 lists = listsOf 2 (4 ∷ 0 ∷ []) (2 ∷ 3 ∷ [])
 
 -- a row of size 0 between them, which names row 9 of the child
-abbrev pub emptyAmong : Column (tListView 4 (tPlain (fixed u8)))
+abbrev pub emptyAmong : Column (tListView 4 (tPlain (fixed (uint w1))))
 emptyAmong = listsOf 3 (4 ∷ 9 ∷ 0 ∷ []) (2 ∷ 0 ∷ 3 ∷ [])
 
-abbrev pub listTen : Column (tListView 4 (tPlain (fixed u8)))
+abbrev pub listTen : Column (tListView 4 (tPlain (fixed (uint w1))))
 listTen = whole 1 (record { offsets = coded 4 (0 ∷ []); sizes = coded 4 (10 ∷ []); child = whole 10 (replicate 10 7) })
 
 -- the offsets and sizes, then the child's length
-abbrev pub listsShown : Destination (tListView 4 (tPlain (fixed u8))) → List ℕ
+abbrev pub listsShown : Destination (tListView 4 (tPlain (fixed (uint w1)))) → List ℕ
 listsShown d = decoded 4 (d .«data» .buffer1) (d .len) ++ decoded 4 (d .«data» .buffer2) (d .len) ++ (d .«data» .child .len ∷ [])
 
-abbrev pub k11 : Column (tListView 4 (tPlain (fixed u8))) → Try (List ℕ)
-k11 x = mapTry listsShown (joined false (tListView 4 (tPlain (fixed u8))) false 2 (sources x (listTen ∷ [])) (copy 1 0 1 ∷ copy 0 0 (x .len) ∷ []))
+abbrev pub k11 : Column (tListView 4 (tPlain (fixed (uint w1)))) → Try (List ℕ)
+k11 x = mapTry listsShown (joined false (tListView 4 (tPlain (fixed (uint w1)))) false 2 (sources x (listTen ∷ [])) (copy 1 0 1 ∷ copy 0 0 (x .len) ∷ []))
 
 -- ---- lists: K18
 
 -- offsets 0, 2, 2, 5 over a child of 5 rows; and one row of ten
-abbrev pub trips : Column (tList 4 (tPlain (fixed u8)))
+abbrev pub trips : Column (tList 4 (tPlain (fixed (uint w1))))
 trips = whole 3 (record { offsets = coded 4 (0 ∷ 2 ∷ 2 ∷ 5 ∷ []); child = whole 5 (seg (λ i. i) 0 5) })
 
-abbrev pub tripTen : Column (tList 4 (tPlain (fixed u8)))
+abbrev pub tripTen : Column (tList 4 (tPlain (fixed (uint w1))))
 tripTen = whole 1 (record { offsets = coded 4 (0 ∷ 10 ∷ []); child = whole 10 (replicate 10 7) })
 
 -- the offsets, then the child's rows
-abbrev pub tripsShown : Destination (tList 4 (tPlain (fixed u8))) → List ℕ
+abbrev pub tripsShown : Destination (tList 4 (tPlain (fixed (uint w1)))) → List ℕ
 tripsShown d = decoded 4 (d .«data» .buffer1) (suc (d .len)) ++ d .«data» .child .«data»
 
 abbrev pub k18 : List Call → Try (List ℕ)
-k18 os = mapTry tripsShown (joined false (tList 4 (tPlain (fixed u8))) true 2 (sources trips (tripTen ∷ [])) (copy 1 0 1 ∷ copy 0 1 3 ∷ os))
+k18 os = mapTry tripsShown (joined false (tList 4 (tPlain (fixed (uint w1)))) true 2 (sources trips (tripTen ∷ [])) (copy 1 0 1 ∷ copy 0 1 3 ∷ os))
 
 -- ---- dense unions: K12
 
 abbrev pub fives : Ty
-fives = tDense (5 ∷ 7 ∷ []) (λ c. true) (λ c. tPlain (fixed u8))
+fives = tDense (5 ∷ 7 ∷ []) (λ c. true) (λ c. tPlain (fixed (uint w1)))
 
 abbrev pub kids : ℕ → Array (List ℕ)
 kids c = whole 3 (1 ∷ 2 ∷ 3 ∷ [])
@@ -258,12 +258,12 @@ given =
     ∷ k4 2
     ∷ k56 []  -- K5
     ∷ k56 (nulls 2 ∷ [])  -- K6
-    ∷ k79 u8 none 200 55 56  -- K7
-    ∷ k79 u8 none 200 55 57  -- K8
-    ∷ k79 u8 (some (0 ∷ [])) 256 0 0  -- K9: a key under a null, since there is no entry
-    ∷ k79 u8 none 0 0 256
-    ∷ k79 u8 (some (0 ∷ [])) 200 250 1  -- K10
-    ∷ k79 i8 (some (0 ∷ [])) 100 100 1
+    ∷ k79 (uint w1) none 200 55 56  -- K7
+    ∷ k79 (uint w1) none 200 55 57  -- K8
+    ∷ k79 (uint w1) (some (0 ∷ [])) 256 0 0  -- K9: a key under a null, since there is no entry
+    ∷ k79 (uint w1) none 0 0 256
+    ∷ k79 (uint w1) (some (0 ∷ [])) 200 250 1  -- K10
+    ∷ k79 (int w1) (some (0 ∷ [])) 100 100 1
     ∷ k11 lists  -- K11
     ∷ k11 emptyAmong  -- .. "also for size 0"
     ∷ k12  -- K12
@@ -314,31 +314,31 @@ expected =
 
 abbrev pub obeyed : List Bool
 obeyed =
-    test (tRunEnd 4 (tPlain (fixed u8))) runs129
-    ∷ test (tRunEnd 2 (tPlain (fixed u8))) runLong
+    test (tRunEnd 4 (tPlain (fixed (uint w1)))) runs129
+    ∷ test (tRunEnd 2 (tPlain (fixed (uint w1)))) runLong
     ∷ test (tPlain (string 4)) vanstop
     ∷ test (tPlain (string 4)) ten
-    ∷ test (tDictionary u8 (fixed u8)) (firstKeyed u8 200)
-    ∷ test (tDictionary u8 (fixed u8)) (keyed u8 none 55 56 1000)
-    ∷ test (tDictionary u8 (fixed u8)) (keyed u8 none 55 57 1000)
-    ∷ test (tDictionary u8 (fixed u8)) (firstKeyed u8 256)
-    ∷ test (tDictionary u8 (fixed u8)) (keyed u8 (some (0 ∷ [])) 0 0 1000)
-    ∷ test (tDictionary u8 (fixed u8)) (firstKeyed u8 0)
-    ∷ test (tDictionary u8 (fixed u8)) (keyed u8 none 0 256 1000)
-    ∷ test (tDictionary u8 (fixed u8)) (keyed u8 (some (0 ∷ [])) 250 1 1000)
-    ∷ test (tDictionary i8 (fixed u8)) (firstKeyed i8 100)
-    ∷ test (tDictionary i8 (fixed u8)) (keyed i8 (some (0 ∷ [])) 100 1 1000)
-    ∷ test (tDictionary u8 (fixed u8)) (keyed u8 none 255 256 1000)
-    ∷ test (tDictionary u8 (fixed u8)) (keyed u8 none 255 257 1000)
-    ∷ test (tDictionary u8 (fixed u8)) (maskedAt 5)
-    ∷ test (tListView 4 (tPlain (fixed u8))) lists
-    ∷ test (tListView 4 (tPlain (fixed u8))) emptyAmong
-    ∷ test (tListView 4 (tPlain (fixed u8))) listTen
+    ∷ test (tDictionary (uint w1) (fixed (uint w1))) (firstKeyed (uint w1) 200)
+    ∷ test (tDictionary (uint w1) (fixed (uint w1))) (keyed (uint w1) none 55 56 1000)
+    ∷ test (tDictionary (uint w1) (fixed (uint w1))) (keyed (uint w1) none 55 57 1000)
+    ∷ test (tDictionary (uint w1) (fixed (uint w1))) (firstKeyed (uint w1) 256)
+    ∷ test (tDictionary (uint w1) (fixed (uint w1))) (keyed (uint w1) (some (0 ∷ [])) 0 0 1000)
+    ∷ test (tDictionary (uint w1) (fixed (uint w1))) (firstKeyed (uint w1) 0)
+    ∷ test (tDictionary (uint w1) (fixed (uint w1))) (keyed (uint w1) none 0 256 1000)
+    ∷ test (tDictionary (uint w1) (fixed (uint w1))) (keyed (uint w1) (some (0 ∷ [])) 250 1 1000)
+    ∷ test (tDictionary (int w1) (fixed (uint w1))) (firstKeyed (int w1) 100)
+    ∷ test (tDictionary (int w1) (fixed (uint w1))) (keyed (int w1) (some (0 ∷ [])) 100 1 1000)
+    ∷ test (tDictionary (uint w1) (fixed (uint w1))) (keyed (uint w1) none 255 256 1000)
+    ∷ test (tDictionary (uint w1) (fixed (uint w1))) (keyed (uint w1) none 255 257 1000)
+    ∷ test (tDictionary (uint w1) (fixed (uint w1))) (maskedAt 5)
+    ∷ test (tListView 4 (tPlain (fixed (uint w1)))) lists
+    ∷ test (tListView 4 (tPlain (fixed (uint w1)))) emptyAmong
+    ∷ test (tListView 4 (tPlain (fixed (uint w1)))) listTen
     ∷ test fives sevens
     ∷ test fives twoFives
     ∷ test named drivers
     ∷ test named driversSliced
     ∷ test named depot
-    ∷ test (tList 4 (tPlain (fixed u8))) trips
-    ∷ test (tList 4 (tPlain (fixed u8))) tripTen
+    ∷ test (tList 4 (tPlain (fixed (uint w1)))) trips
+    ∷ test (tList 4 (tPlain (fixed (uint w1)))) tripTen
     ∷ []

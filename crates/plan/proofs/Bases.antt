@@ -8,7 +8,7 @@ use native.Mathlib.Omega.{arith}
 use lib.ListN.{length, getD, length-append}
 use lib.Dec.{ltb, eqb}
 use borrow.Author.Tests.{eqb-true, eqb-false, ltb-true, ne-eqb}
-use Rattle.columnar.specs.Types.{Number, i8, u8, i16, u16, i32, u32, i64, u64, f32, f64, limit, tView}
+use Rattle.columnar.specs.Types.{Number, int, uint, w1, w2, w4, w8, f32, f64, limit, tView}
 use Rattle.columnar.specs.Row.{seg}
 use Rattle.columnar.specs.View.{Views}
 use Rattle.columnar.specs.Dictionary.{Dictionary}
@@ -41,14 +41,14 @@ module _ (x : Tables) (sources : List ℕ) (m : ℕ) (plan : List ℕ) where
   keys-joined i strings d q = rw (ne-eqb (dictionaryOf plan i) 0 d, q)
 
 pub limit-small : (c : Number) → limit c ≤ 2 ^ 64
-limit-small i8 = omega arith
-limit-small u8 = omega arith
-limit-small i16 = omega arith
-limit-small u16 = omega arith
-limit-small i32 = omega arith
-limit-small u32 = omega arith
-limit-small i64 = omega arith
-limit-small u64 = omega arith
+limit-small (int w1) = omega arith
+limit-small (uint w1) = omega arith
+limit-small (int w2) = omega arith
+limit-small (uint w2) = omega arith
+limit-small (int w4) = omega arith
+limit-small (uint w4) = omega arith
+limit-small (int w8) = omega arith
+limit-small (uint w8) = omega arith
 limit-small f32 = omega arith
 limit-small f64 = omega arith
 

@@ -7,12 +7,11 @@ use native.Mathlib.Omega.{arith}
 use lib.ListN.{length}
 use lib.Dec.{leb, eqb}
 use borrow.Author.Tests.{eqb-true, eqb-false, leb-true, le-leb, not-true}
-use Rattle.columnar.specs.Types.{Number, i8, Plain, fixed, string}
+use Rattle.columnar.specs.Types.{Number, int, w1, Plain, fixed, string}
 use Rattle.schema.specs.formats.Code.{between, isInteger, isFixed, isString, isView, isListView, isList, isUnion, isRunEnd, widthOf}
-use Rattle.schema.specs.formats.Types.{numberOf}
+use Rattle.schema.specs.formats.Types.{numberOf, numberOr}
 use Rattle.schema.specs.Tree.{children, dictionary, below, bare, codeOf, idsOf, childForEach, shape, leafShape, keysShape, listShape, unionShape, runShape}
-use Rattle.array_data.specs.Typed.{NodeKind, fixedNode, stringNode, viewNode, listViewNode, listNode, sparseNode, denseNode, runEndNode, dictionaryNode}
-use Rattle.array_data.specs.type_tree.Lent.{numberOr, kindAt}
+use Rattle.array_data.specs.NodeKinds.{NodeKind, fixedNode, stringNode, viewNode, listViewNode, listNode, sparseNode, denseNode, runEndNode, dictionaryNode, kindAt}
 use Rattle.array_data.proofs.type_tree.Shaped.{plainKind, Shaped, of-plain, of-view, of-list, of-lists, of-sparse, of-dense, of-run, of-dictionary}
 use Rattle.array_data.proofs.lent_tables.Laws.{and-left, and-right}
 use Rattle.plan.specs.dictionaries.Sources.{ofStrings}
@@ -37,7 +36,7 @@ sortBy f s v l o u r single = cond f (cond single 0 7) (cond s 1 (cond v 2 (cond
 
 module _ (m : Number) (a b d c : ℕ) (ids : List ℕ) where
   sort-is : (f s v l o u r single sparse : Bool)
-      → sort (cond f (numberKind single m) (cond s (stringNode a) (cond v viewNode (cond l (listViewNode b) (cond o (listNode d) (cond u (unionKind sparse ids) (cond r (runEndNode c) (fixedNode i8))))))))
+      → sort (cond f (numberKind single m) (cond s (stringNode a) (cond v viewNode (cond l (listViewNode b) (cond o (listNode d) (cond u (unionKind sparse ids) (cond r (runEndNode c) (fixedNode (int w1)))))))))
       ≡ sortBy f s v l o u r single
   sort-is true s v l o u r true sparse = refl
   sort-is true s v l o u r false sparse = refl

@@ -15,7 +15,7 @@ use Rattle.plan.specs.dictionaries.Sources.{arrayAt, dictAt, capped}
 use Rattle.array_data.specs.node_words.Words.{planted}
 use Rattle.plan.specs.parts.Parts.{partTotal}
 use Rattle.walk.specs.State.{codeOf, dictionaryOf, endOf, keepsOf}
-use Rattle.plan.specs.Plan.{filled, flag, withTree, holder, parentOf, asked, isEnds, keepWord, withKeeps, dictionariesAt, joinedWord, withJoined, buffersUpTo, baseWord, withBases, withCounts, withParts, withTotal, laidOut, withChoice, planned}
+use Rattle.plan.specs.Plan.{filled, flag, withTree, holder, parentOf, asked, isEnds, keepWord, withKeeps, dictionariesAt, joinedWord, withJoined, buffersUpTo, baseWord, withBases, withCounts, withParts, withTotal, laidOut, planned}
 use Rattle.array_data.specs.Sources.{sourceCount, firstOf, nodesOf}
 
 -- ---- one word more
@@ -146,7 +146,7 @@ module _ (formats schema lengths places body sources : List ℕ) (keep : Bool) w
 
   pub planned-by : (gaps : Bool) {e : List ℕ} {v : ℕ} → e ≡ laidOut formats schema (tables lengths places body) sources keep → v ≡ flag gaps
       → set e 867 v ≡ planned formats schema (tables lengths places body) sources keep gaps
-  unfolding planned withChoice
+  unfolding planned
   planned-by gaps p q = rw (p, q)
 
 -- a choice as a word

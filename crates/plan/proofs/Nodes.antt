@@ -22,8 +22,8 @@ use Rattle.schema.proofs.Trees.{end-up, end-inside, end-after, child-inside}
 use Rattle.schema.proofs.Depth.{nested, child-before}
 use Rattle.schema.proofs.Known.{typed-whole, typed-shape}
 use Rattle.array_data.specs.Tables.{Tables}
-use Rattle.array_data.specs.Typed.{runEndNode, Tree, tablesFrom, bodyOf}
-use Rattle.array_data.specs.type_tree.Lent.{kindAt}
+use Rattle.array_data.specs.NodeKinds.{runEndNode, kindAt}
+use Rattle.array_data.specs.Typed.{Tree, tablesFrom, bodyOf}
 use Rattle.array_data.proofs.type_tree.Shaped.{Shaped, of-plain, of-view, of-list, of-lists, of-sparse, of-dense, of-run, of-dictionary, shaped, at-run}
 use Rattle.array_data.proofs.type_tree.Lent.{first-child, second-child}
 use Rattle.array_data.specs.lent_tables.Lent.{tables}

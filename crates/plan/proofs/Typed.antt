@@ -14,8 +14,9 @@ use Rattle.schema.specs.Tree as schemaTree
 use Rattle.schema.specs.Tree.{below, childAt, ceilings, typed}
 use Rattle.schema.proofs.Known.{typed-whole, typed-shape}
 use Rattle.array_data.specs.Tables.{Tables}
-use Rattle.array_data.specs.Typed.{Tree, viewNode, fieldOf, nodeOf, MeansPlain, Means, tablesFrom, bodyOf}
-use Rattle.array_data.specs.type_tree.Lent.{kindAt, treeOf, typeOf}
+use Rattle.array_data.specs.NodeKinds.{viewNode, kindAt}
+use Rattle.array_data.specs.Typed.{Tree, fieldOf, nodeOf, MeansPlain, Means, tablesFrom, bodyOf}
+use Rattle.array_data.specs.type_tree.Lent.{treeOf, typeOf}
 use Rattle.array_data.proofs.type_tree.Ids.{field-in}
 use Rattle.array_data.proofs.type_tree.Shaped.{plainKind, Shaped, shaped}
 use Rattle.array_data.proofs.type_tree.Lent.{child-same, first-child, some-node, means}

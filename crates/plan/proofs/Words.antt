@@ -17,7 +17,7 @@ use Rattle.plan.proofs.parts.Words.{Alike, alike-word, alike-total, num
 use Rattle.walk.specs.State.{word, endOf, keepsOf, baseOf}
 use Rattle.plan.specs.Plan as settles
 use Rattle.array_data.specs.Sources as Sources
-use Rattle.plan.specs.Plan.{filled, withTree, holder, parentOf, asked, isEnds, keepWord, withKeeps, joinedWord, withJoined, baseWord, withBases, withCounts, withParts, withTotal, laidOut, withChoice, planned}
+use Rattle.plan.specs.Plan.{filled, withTree, holder, parentOf, asked, isEnds, keepWord, withKeeps, joinedWord, withJoined, baseWord, withBases, withCounts, withParts, withTotal, laidOut, planned}
 use Rattle.array_data.specs.Sources.{sourceCount, firstOf}
 
 -- ---- what a run of writes leaves
@@ -130,7 +130,7 @@ module _ (formats schema : List ℕ) (x : Tables) (sources : List ℕ) (keep gap
   named = withParts n based
 
   plan-is : plan ≡ set (set named 866 (partTotal named)) 867 (settles.flag gaps)
-  unfolding planned withChoice laidOut withTotal
+  unfolding planned laidOut withTotal
   plan-is = refl
 
   -- ---- lengths

@@ -110,13 +110,9 @@ laidOut formats schema x sources keep =
     let tree = withCounts m n (withTree (planted formats schema (firstOf sources 0) n)) in
     withTotal (withParts n (withBases x sources m (withJoined x sources m n (withKeeps x sources m keep n tree))))
 
--- word 867: 1 where one run for a gap is chosen
-unfoldable pub withChoice : Bool → List ℕ → List ℕ
-withChoice gaps plan = set plan 867 (flag gaps)
-
--- THE STATE AS IT IS PLANNED
+-- THE STATE AS IT IS PLANNED: word 867 is 1 where one run for a gap is chosen
 unfoldable pub planned : List ℕ → List ℕ → Tables → List ℕ → Bool → Bool → List ℕ
-planned formats schema x sources keep gaps = withChoice gaps (laidOut formats schema x sources keep)
+planned formats schema x sources keep gaps = set (laidOut formats schema x sources keep) 867 (flag gaps)
 
 -- ---- what the grounds 9 to 12 give
 

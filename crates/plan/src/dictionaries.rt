@@ -1,7 +1,7 @@
 // What an opening settles before the first order: which nodes keep nulls, which dictionaries are shared, and whether the keys fit.
 // Node i of source s is node sources[2 * s] + i of the tables (docs/FORMAT.md).
 ghost use mathlib.Core.Path.{_≡_};
-ghost use mathlib.Core.Bool.{Bool, true};
+ghost use mathlib.Core.Bool.{Bool, true, false};
 ghost use mathlib.Core.List.{List};
 ghost use mathlib.Core.Option.{some};
 ghost use Prim.Native.Nat.{ℕ, _+_, _<_, _^_};
@@ -9,7 +9,7 @@ ghost use lib.Dec.{leb, eqb};
 ghost use Rattle.columnar.specs.Types.{Number, limit, keyFits};
 ghost use Rattle.columnar.specs.Array.{nullCount};
 ghost use Rattle.columnar.specs.Test.{same};
-ghost use Rattle.model.specs.Opening.{anyNull, keeps, ptrEq, shared, entriesBefore, startOfKeys};
+ghost use Rattle.model.specs.Opening.{keeps, ptrEq, shared, entriesBefore, startOfKeys};
 ghost use Rattle.schema.specs.formats.Code.{isInteger};
 ghost use Rattle.schema.specs.formats.Types.{numberOf};
 ghost use Rattle.array_data.specs.Typed.{validStart};
@@ -56,7 +56,7 @@ pub fn any_null(
     i: usize,
 ) -> bool
     requires { ⌜ (m < 2 ^ 32) × (i < 2 ^ 32) × ((s : ℕ) → s < m → Countable (tables (now lengths) (now places) (now body)) (firstOf (now sources) s + i)) ⌝ }
-    ensures { λ r. ⌜ r ≡ anyNull m (arrayAt (tables (now (lengths .entry)) (now (places .entry)) (now (body .entry))) (now (sources .entry)) i) ⌝ }
+    ensures { λ r. ⌜ r ≡ keeps false m (arrayAt (tables (now (lengths .entry)) (now (places .entry)) (now (body .entry))) (now (sources .entry)) i) ⌝ }
 {
     let mut s = 0;
     while s < m {

@@ -13,8 +13,9 @@ use Rattle.columnar.specs.Reading.{Column, Source}
 use Rattle.schema.specs.Tree.{below, dictionary, ceilings, typed}
 use Rattle.schema.proofs.Known.{typed-shape}
 use Rattle.array_data.specs.Tables.{Tables}
-use Rattle.array_data.specs.Typed.{NodeKind, fixedNode, stringNode, Tree, MeansPlain, Means, tablesFrom, columnOf}
-use Rattle.array_data.specs.type_tree.Lent.{kindAt, treeOf, typeOf}
+use Rattle.array_data.specs.NodeKinds.{NodeKind, fixedNode, stringNode, kindAt}
+use Rattle.array_data.specs.Typed.{Tree, MeansPlain, Means, tablesFrom, columnOf}
+use Rattle.array_data.specs.type_tree.Lent.{treeOf, typeOf}
 use Rattle.array_data.specs.lent_tables.Lent.{tables}
 use Rattle.array_data.proofs.type_tree.Lent.{means, formed}
 use Rattle.array_data.proofs.type_tree.Shaped.{Shaped, of-plain, of-view, of-list, of-lists, of-sparse, of-dense, of-run, of-dictionary, shaped}

@@ -14,7 +14,7 @@ use Rattle.number.specs.Number.{splice}
 use Rattle.number.proofs.Laws.{splice-splice, splice-nil, length-splice}
 use Rattle.schema.specs.formats.Code.{isFixed, isString, isView, isListView, isList, isUnion, isSparse, isRunEnd, widthOf}
 use Rattle.array_data.specs.Tables.{Tables, part, lengthOf, offsetOf, place, validOf, firstBuffer, secondBuffer}
-use Rattle.array_data.specs.Typed.{NodeKind, fixedNode, stringNode, viewNode, listViewNode, listNode, sparseNode, denseNode, runEndNode, dictionaryNode}
+use Rattle.array_data.specs.NodeKinds.{NodeKind, fixedNode, stringNode, viewNode, listViewNode, listNode, sparseNode, denseNode, runEndNode, dictionaryNode}
 use Rattle.run_ends.specs.declared.PhysicalRun.{PhysicalRun}
 use Rattle.slot_reader.specs.run.Rows.{rowRun}
 use Rattle.slot_reader.specs.declared.run.RowRun.{RowRun}

@@ -9,12 +9,13 @@ use native.Mathlib.Numerals.{add-one}
 use lib.ListN.{length}
 use lib.Dec.{leb, ltb, eqb}
 use borrow.Author.Tests.{lt-ltb, le-ltb, le-leb, lt-leb, eq-eqb, ne-eqb, eqb-true, eqb-false}
-use Rattle.schema.specs.Tree.{field, flag, children, dictionary, below, endFrom, dueFrom, childForEach, isValues, endOf, depth, whole, codeOf, idsOf, fewFields, shape, ceilings, typed, sameFlag, sameFormats, sameNode, sameType}
+use Rattle.schema.specs.Tree.{field, flag, children, dictionary, below, endFrom, childForEach, isValues, endOf, depth, whole, codeOf, idsOf, fewFields, shape, ceilings, typed, sameFlag, sameFormats, sameNode, sameType}
 use Rattle.schema.specs.union_ids.Ids.{idsAt, answerOf, sameFormat}
 use Rattle.schema.specs.declared.union_ids.Ids.{Ids}
 use Rattle.schema.specs.declared.union_ids.Ids.the-variants.{Count, Bad}
 use Rattle.columnar.specs.Test.{every}
 use Rattle.schema.proofs.Counts.{count}
+use Rattle.schema.proofs.Due.{dueFrom, whole-is}
 
 -- ---- every and count
 
@@ -77,24 +78,23 @@ module _ (schema : List ℕ) (first n : ℕ) where
   -- ---- whether they are one whole tree
 
   pub not-none : n ≡ 0 → whole schema first n ≡ false
-  unfolding whole
-  not-none e = rw (lt-leb 1 n (omega arith))
+  not-none e = whole-is schema first n ∙ rw (lt-leb 1 n (omega arith))
 
   pub not-early : (due k : ℕ) → k < n → due ≡ 0 → endFrom schema first (n - k) due k ≡ endFrom schema first n 1 0 → whole schema first n ≡ false
-  unfolding whole endOf
+  unfolding endOf
   not-early due k l d e =
       let z : n - 0 ≡ n = omega arith in
       let s : endFrom schema first n 1 0 ≡ k = sym e ∙ end-none due k l d in
-      rw (z, s, ne-eqb k n (λ q. omega arith), and-false)
+      whole-is schema first n ∙ rw (z, s, ne-eqb k n (λ q. omega arith), and-false)
 
   pub by-due : (due k : ℕ) → n ≡ k → (n ≡ 0 → ⊥) → endFrom schema first (n - k) due k ≡ endFrom schema first n 1 0
       → dueFrom schema first (n - k) due k ≡ dueFrom schema first n 1 0 → whole schema first n ≡ eqb due 0
-  unfolding whole endOf
+  unfolding endOf
   by-due due k q z e d =
       let z0 : n - 0 ≡ n = omega arith in
       let s : endFrom schema first n 1 0 ≡ n = sym e ∙ end-last due k (omega arith) ∙ sym q in
       let t : dueFrom schema first n 1 0 ≡ due = sym d ∙ due-last due k (omega arith) in
-      rw (z0, s, t, le-leb 1 n (omega arith), eq-eqb n n refl, and-true)
+      whole-is schema first n ∙ rw (z0, s, t, le-leb 1 n (omega arith), eq-eqb n n refl, and-true)
 
   -- ---- depth and ceilings
 

@@ -1,5 +1,6 @@
 -- The laws that the proofs of `schema` cite.
 pub mod Counts
+pub mod Due
 pub mod Laws
 pub mod Shapes
 pub mod Trees

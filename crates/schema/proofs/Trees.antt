@@ -7,7 +7,8 @@ use native.Mathlib.Omega.{arith}
 use native.Mathlib.Numerals.{add-one}
 use lib.Dec.{leb, eqb}
 use borrow.Author.Tests.{eqb-true}
-use Rattle.schema.specs.Tree.{below, endFrom, dueFrom, endOf, childAt, whole}
+use Rattle.schema.specs.Tree.{below, endFrom, endOf, childAt, whole}
+use Rattle.schema.proofs.Due.{dueFrom, whole-is}
 use Rattle.schema.proofs.Laws.{end-step, end-none, due-step}
 
 -- ---- p subtrees, and q behind them
@@ -131,9 +132,9 @@ module _ (schema : List ℕ) (first n : ℕ) where
 
   module _ (w : whole schema first n ≡ true) where
     start : Reached 0
-    unfolding whole endOf
+    unfolding endOf
     start =
-        let h = and-eq-true-iff (leb 1 n && eqb (dueFrom schema first n 1 0) 0) (eqb (endOf schema first n 0) n) .0 w in
+        let h = and-eq-true-iff (leb 1 n && eqb (dueFrom schema first n 1 0) 0) (eqb (endOf schema first n 0) n) .0 (sym (whole-is schema first n) ∙ w) in
         let d = and-eq-true-iff (leb 1 n) (eqb (dueFrom schema first n 1 0) 0) .0 (h .0) in
         let e : n - 0 ≡ n = omega arith in
         record { left = 1; due = ap (λ x. dueFrom schema first x 1 0) e ∙ eqb-true _ _ (d .1); end = eqb-true _ _ (h .1) }

@@ -43,12 +43,6 @@ module _ (schema : List ℕ) (first : ℕ) where
   endFrom (suc f) zero i = i
   endFrom (suc f) (suc p) i = endFrom f (p + below i) (suc i)
 
-  -- .. and how many subtrees are then still due
-  unfoldable pub dueFrom : ℕ → ℕ → ℕ → ℕ
-  dueFrom zero p i = p
-  dueFrom (suc f) zero i = zero
-  dueFrom (suc f) (suc p) i = dueFrom f (p + below i) (suc i)
-
   -- a node with nothing below it
   unfoldable pub bare : ℕ → Bool
   bare i = eqb (children i) 0 && eqb (dictionary i) 0
@@ -78,9 +72,9 @@ module _ (schema : List ℕ) (first n : ℕ) where
   unfoldable pub depth : ℕ → ℕ
   depth i = suc (sum (λ j. cond (ltb i (endOf j)) 1 0) i)
 
-  -- the nodes are one whole tree
+  -- the nodes are one whole tree: the root's subtree takes n nodes, where it could take one more
   unfoldable pub whole : Bool
-  whole = leb 1 n && eqb (dueFrom schema first n 1 0) 0 && eqb (endOf 0) n
+  whole = eqb (endFrom schema first (suc n) 1 0) n
 
 -- ---- with the formats that the nodes name
 module _ (formats schema : List ℕ) (first : ℕ) where

@@ -10,8 +10,7 @@ use borrow.Author.Tests.{le-leb, lt-leb, leb-true, leb-false, eq-eqb, ne-eqb}
 use Rattle.columnar.specs.Types.{Number, width}
 use Rattle.schema.specs.formats.Code.{between, lastCode, isFixed, isString, isView, isListView, isList, isUnion, isSparse, isRunEnd, widthOf}
 use Rattle.schema.specs.formats.Types as types
-use Rattle.array_data.specs.Typed.{NodeKind, fixedNode, stringNode, viewNode, listViewNode, listNode, sparseNode, denseNode, runEndNode, dictionaryNode}
-use Rattle.array_data.specs.type_tree.Lent.{kindOf}
+use Rattle.array_data.specs.NodeKinds.{NodeKind, fixedNode, stringNode, viewNode, listViewNode, listNode, sparseNode, denseNode, runEndNode, dictionaryNode, kindOf}
 use Rattle.array_data.proofs.type_tree.Shaped.{kind-fixed, kind-string, kind-view, kind-list, kind-lists, kind-union, kind-run, number-or}
 use Rattle.array_data.proofs.lent_tables.Laws.{and-left, and-right}
 use Rattle.slot_reader.specs.leaf_row.Reading as leaf

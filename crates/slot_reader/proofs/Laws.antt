@@ -14,7 +14,7 @@ use Rattle.columnar.specs.Types.{Number, width}
 use Rattle.columnar.specs.Array.{item}
 use Rattle.schema.specs.formats.Code.{isFixed, isString, isView, isListView, isList, widthOf}
 use Rattle.array_data.specs.Tables.{Tables, part, lengthOf, offsetOf, place, firstBuffer, secondBuffer}
-use Rattle.array_data.specs.Typed.{NodeKind, stringNode, viewNode, listViewNode, listNode, runEndNode}
+use Rattle.array_data.specs.NodeKinds.{NodeKind, stringNode, viewNode, listViewNode, listNode, runEndNode}
 use Rattle.slot_reader.specs.declared.leaf_row.Leaf.{Leaf}
 use Rattle.slot_reader.specs.leaf_row.Reading as leaf
 use Rattle.slot_reader.specs.view.Place.{placeOf, partOf, Within}

@@ -14,7 +14,7 @@ use Rattle.columnar.specs.Types.{Number, width, Plain, fixed, string}
 use Rattle.columnar.specs.Test.{every}
 use Rattle.columnar.specs.Formed.{OffsetWidth, RunWidth}
 use Rattle.schema.specs.formats.Code.{isInteger, isFixed, isString, isView, isListView, isList, isUnion, isRunEnd, widthOf}
-use Rattle.schema.specs.formats.Types.{numberOf}
+use Rattle.schema.specs.formats.Types.{numberOf, numberOr}
 use Rattle.schema.proofs.formats.Types.{number-width, fixed-number}
 use Rattle.schema.specs.union_ids.Ids.{answerOf, written}
 use Rattle.schema.specs.declared.union_ids.Ids.{Ids}
@@ -24,8 +24,9 @@ use Rattle.schema.proofs.Trees.{child-inside}
 use Rattle.schema.proofs.Known.{typed-whole, typed-shape}
 use Rattle.array_data.specs.Tables.{Tables, lengthOf}
 use Rattle.array_data.specs.Rules.{fixedRule, stringRule, viewRule, listViewRule, listRule, sparseRule, denseRule, runEndRule, dictionaryRule}
-use Rattle.array_data.specs.Typed.{NodeKind, fixedNode, stringNode, viewNode, listViewNode, listNode, sparseNode, denseNode, runEndNode, dictionaryNode, fieldOf, nodeOf, childNode, tablesFrom, kindRule, nodeRule}
-use Rattle.array_data.specs.type_tree.Lent.{numberOr, kindAt, treeOf}
+use Rattle.array_data.specs.NodeKinds.{NodeKind, fixedNode, stringNode, viewNode, listViewNode, listNode, sparseNode, denseNode, runEndNode, dictionaryNode, kindAt}
+use Rattle.array_data.specs.Typed.{fieldOf, nodeOf, childNode, tablesFrom, kindRule, nodeRule}
+use Rattle.array_data.specs.type_tree.Lent.{treeOf}
 use Rattle.array_data.proofs.type_tree.Ids.{both, field-in}
 use Rattle.array_data.proofs.type_tree.Shaped.{later, string-width, list-width, lists-width, integer-fixed, plainKind, Shaped, of-plain, of-view, of-list, of-lists, of-sparse, of-dense, of-run, of-dictionary, at-fixed, at-keys, at-string, at-view, at-list, at-lists, at-union, at-run, five, shaped}
 use Rattle.array_data.proofs.type_tree.Lent.{child-same, first-child}

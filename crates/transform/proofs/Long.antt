@@ -17,6 +17,7 @@ use Rattle.walk.specs.Leaves.{copyBits, copyMask, nullMask, countNulls, copyNum
 use Rattle.walk.specs.Copy.{Walk, masked, listViewRow, copyListView, putStretch, copyList, copySparse, denseTo, denseRow, copyDense, putRuns, runsAt, copyRuns, copyData, copySlots, copyNode, copyWalk, eachField}
 use Rattle.walk.specs.Nulls.{NullWalk, nullListView, nullList, nullSparse, nullDense, addRun, growRun, nullRuns, nullData, nullNode, nullWalk}
 use Rattle.walk.proofs.Names.{putList, copyFields, nullFields}
+use Rattle.walk.proofs.Offsets.{string-is, list-is}
 
 -- m counters
 pub record Sized (m : ℕ) (c : List ℕ) : Type 0 where
@@ -88,10 +89,10 @@ module _ {m : ℕ} where
       long-extended w from n Falls h = long-fail 12 h
 
       long-string : (w slot n : ℕ) {c : List ℕ} → Sized m c → Long m (copyString x i w slot n c)
-      unfolding copyString
       long-string w slot n {c} h =
-          long-cond (eqb n 0) (long-done h)
-          (long-need _ 12 h (long-extended w (place x i 3 + w * slot) n (extended w (x .body) (place x i 3 + w * slot) n (bytes c i)) h))
+          rw (string-is x i w slot n c)
+          (long-cond (eqb n 0) (long-done h)
+          (long-need _ 12 h (long-extended w (place x i 3 + w * slot) n (extended w (x .body) (place x i 3 + w * slot) n (bytes c i)) h)))
 
     -- ---- copies
 
@@ -108,10 +109,10 @@ module _ {m : ℕ} where
       long-put-list w from n Falls h = long-fail 12 h
 
       long-list : (w slot n : ℕ) {c : List ℕ} → Sized m c → Long m (copyList x walk w i slot n c)
-      unfolding copyList
       long-list w slot n {c} h =
-          long-cond (eqb n 0) (long-done h)
-          (long-need _ 12 h (long-need _ 12 h (long-put-list w (place x i 3 + w * slot) n (extended w (x .body) (place x i 3 + w * slot) n (rows c (suc i))) h)))
+          rw (list-is x walk w i slot n c)
+          (long-cond (eqb n 0) (long-done h)
+          (long-need _ 12 h (long-need _ 12 h (long-put-list w (place x i 3 + w * slot) n (extended w (x .body) (place x i 3 + w * slot) n (rows c (suc i))) h))))
 
       long-fields : (slot n end f k : ℕ) {c : List ℕ} → Sized m c → Long m (copyFields x walk slot n end f k c)
       unfolding eachField

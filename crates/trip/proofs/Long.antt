@@ -27,6 +27,7 @@ use Rattle.model.specs.Book.{Call, copy, nulls}
 use Rattle.refinement.specs.orders.Order.{Lent, joinOf}
 use Rattle.trip.specs.Walk.{orderWalk, orderStep}
 use Rattle.walk.proofs.Names.{putList, copyFields, nullFields}
+use Rattle.walk.proofs.Offsets.{string-is, list-is}
 
 -- ---- counters
 
@@ -100,10 +101,10 @@ module _ {m : ℕ} where
       long-extended w from n Falls h = long-fail 12 h
 
       long-string : (w slot n : ℕ) {c : List ℕ} → Sized m c → Long m (copyString x i w slot n c)
-      unfolding copyString
       long-string w slot n {c} h =
-          long-cond (eqb n 0) (long-done h)
-          (long-need _ 12 h (long-extended w (place x i 3 + w * slot) n (extended w (x .body) (place x i 3 + w * slot) n (bytes c i)) h))
+          rw (string-is x i w slot n c)
+          (long-cond (eqb n 0) (long-done h)
+          (long-need _ 12 h (long-extended w (place x i 3 + w * slot) n (extended w (x .body) (place x i 3 + w * slot) n (bytes c i)) h)))
 
     -- ---- copies
 
@@ -120,10 +121,10 @@ module _ {m : ℕ} where
       long-put-list w from n Falls h = long-fail 12 h
 
       long-list : (w slot n : ℕ) {c : List ℕ} → Sized m c → Long m (copyList x walk w i slot n c)
-      unfolding copyList
       long-list w slot n {c} h =
-          long-cond (eqb n 0) (long-done h)
-          (long-need _ 12 h (long-need _ 12 h (long-put-list w (place x i 3 + w * slot) n (extended w (x .body) (place x i 3 + w * slot) n (rows c (suc i))) h)))
+          rw (list-is x walk w i slot n c)
+          (long-cond (eqb n 0) (long-done h)
+          (long-need _ 12 h (long-need _ 12 h (long-put-list w (place x i 3 + w * slot) n (extended w (x .body) (place x i 3 + w * slot) n (rows c (suc i))) h))))
 
       long-fields : (slot n end f k : ℕ) {c : List ℕ} → Sized m c → Long m (copyFields x walk slot n end f k c)
       unfolding eachField

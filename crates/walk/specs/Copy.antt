@@ -9,16 +9,13 @@ use Rattle.number.specs.Number.{entry, encode}
 use Rattle.columnar.specs.Types.{half}
 use Rattle.schema.specs.formats.Code.{isFixed, isString, isView, isListView, isList}
 use Rattle.utils.specs.Offsets.{movedOffsets}
-use Rattle.utils.specs.Extension.{extended}
-use Rattle.utils.specs.declared.Extended.{Extended}
-use Rattle.utils.specs.declared.Extended.the-variants.{Fits, Over, Falls}
 use Rattle.run_ends.specs.Lookup.{foundRun, runsOf}
 use Rattle.run_ends.specs.Clip.{clipped}
 use Rattle.run_ends.specs.declared.Runs.{Runs}
 use Rattle.run_ends.specs.declared.Runs.the-variants.{Range, None}
 use Rattle.walk.specs.State.{Join, codeOf, dictionaryOf, endOf, idOf, bytesOf, rows, addRows, endGap, place, lengthOf, offsetOf, far, slotOf, rowsIn}
 use Rattle.walk.specs.Log.{Out, put, fail, done, wrote, need, found, next, each}
-use Rattle.walk.specs.Leaves.{offered, copyMask, copyNumbers, copyKeys, copyViews, copyString}
+use Rattle.walk.specs.Leaves.{withOffsets, copyMask, copyNumbers, copyKeys, copyViews, copyString}
 
 -- a walk of a node: node, first row, rows, counters
 abbrev pub Walk : Type 0
@@ -71,7 +68,7 @@ module _ (x : Join) (child : Walk) where
       cond (eqb n 0) (done c)
       (need (ltb (suc i) 32) 12 c
       (need (rowsIn x (place x i 3) w slot (suc n)) 12 c
-      (offered (extended w (x .body) (place x i 3 + w * slot) n (rows c (suc i))) (putStretch w i (place x i 3 + w * slot) n) c)))
+      (withOffsets w (x .body) (place x i 3 + w * slot) n (rows c (suc i)) (putStretch w i (place x i 3 + w * slot) n) c)))
 
   -- ---- sparse unions: "copies offset + start onward from all children"
 

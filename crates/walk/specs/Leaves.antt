@@ -1,13 +1,13 @@
 -- The walk at nodes that have no children: validity, fixed-width numbers, keys, views and byte strings. Assumes nothing.
 -- Follows arrow-data 60.1.0 src/transform/primitive.rs, variable_size.rs and mod.rs, Apache-2.0; see NOTICE.
-use mathlib.Core.Bool.{Bool, true, false, cond}
+use mathlib.Core.Bool.{Bool, true, false, cond, _&&_}
 use mathlib.Core.List.{List, []}
 use Prim.Native.Nat.{ℕ, zero, suc, _+_, _*_, _-_}
 use lib.ListN.{length, take, drop, getD, replicate}
 use lib.Dec.{leb, ltb, eqb}
+use Rattle.number.specs.Number.{entry}
 use Rattle.bits.specs.Bits.{bitsAt, zeros}
-use Rattle.utils.specs.Offsets.{movedOffsets, repeated}
-use Rattle.utils.specs.Extension.{extended}
+use Rattle.utils.specs.Offsets.{largest, moved, movedOffsets, repeated}
 use Rattle.utils.specs.declared.Extended.{Extended}
 use Rattle.utils.specs.declared.Extended.the-variants.{Fits, Over, Falls}
 use Rattle.utils.specs.primitive.Primitive.{rebased}
@@ -15,7 +15,14 @@ use Rattle.utils.specs.byte_view.View.{reviewed}
 use Rattle.walk.specs.State.{Join, keepsOf, baseOf, rows, bytes, addNulls, setBytes, place, rowsIn}
 use Rattle.walk.specs.Log.{Out, put, mask, fail, done, wrote, need, next}
 
--- what is put where offsets fit; "Ground 6" where an offset does not fit; 12 where offsets fall, which no accepted source has
+-- the offsets of n rows behind `last`: what is put with the last of them and the source's first; "Ground 6" where the last does not fit; 12 where they
+-- fall, which no accepted source has
+abbrev pub withOffsets : ℕ → List ℕ → ℕ → ℕ → ℕ → (ℕ → ℕ → List ℕ → Out) → List ℕ → Out
+withOffsets w s from n last k c =
+    need (leb (entry w s from 0) (entry w s from n) && leb last (largest w)) 12 c
+    (need (leb (moved w s from last n) (largest w)) 6 c (k (moved w s from last n) (entry w s from 0) c))
+
+-- the same by what an extension of the offsets comes to (proofs/Offsets.antt)
 abbrev pub offered : Extended → (ℕ → ℕ → List ℕ → Out) → List ℕ → Out
 offered (Fits last first) k c = k last first c
 offered (Over row needed) k c = fail 6 c
@@ -86,7 +93,7 @@ module _ (x : Join) (i : ℕ) where
   copyString w slot n c =
       cond (eqb n 0) (done c)
       (need (rowsIn x (place x i 3) w slot (suc n)) 12 c
-      (offered (extended w (x .body) (place x i 3 + w * slot) n (bytes c i)) (putString w (place x i 3 + w * slot) n) c))
+      (withOffsets w (x .body) (place x i 3 + w * slot) n (bytes c i) (putString w (place x i 3 + w * slot) n) c))
 
   -- "a null repeats the last offset, no bytes"
   unfoldable pub nullString : ℕ → ℕ → List ℕ → Out

@@ -21,7 +21,8 @@ use Rattle.columnar.specs.Entries.{encodes}
 use Rattle.columnar.specs.RunEnd.{endOf, startOf}
 use Rattle.columnar.proofs.Items.{entry-end}
 use Rattle.array_data.specs.Tables.{Tables, place, lengthOf, offsetOf, firstBuffer, arrayWith}
-use Rattle.array_data.specs.Typed.{runEndNode, Tree}
+use Rattle.array_data.specs.NodeKinds.{runEndNode}
+use Rattle.array_data.specs.Typed.{Tree}
 use Rattle.model.proofs.Ends.{First, Many, in-order, last-run, clip-ends}
 use Rattle.walk.specs.State.{addRows}
 use Rattle.walk.specs.Log.{Did, put, apply, applyIf, enter, done}

@@ -13,15 +13,16 @@ use Rattle.columnar.specs.Types.{Number, width}
 use Rattle.columnar.specs.Formed.{Ids, RunWidth}
 use Rattle.columnar.proofs.Test.{every-out}
 use Rattle.schema.specs.formats.Code.{isInteger, isFixed, isString, isView, isListView, isList, isRunEnd, widthOf}
-use Rattle.schema.specs.formats.Types.{numberOf}
+use Rattle.schema.specs.formats.Types.{numberOf, numberOr}
 use Rattle.schema.proofs.formats.Types.{number-width, fixed-number}
 use Rattle.schema.specs.Tree.{dictionary, below, childAt, codeOf, shape, typed}
 use Rattle.schema.proofs.Known.{typed-shape, typed-whole, within-nodes}
 use Rattle.schema.proofs.Trees.{child-inside}
 use Rattle.array_data.specs.Tables.{Tables, lengthOf, offsetOf, validOf}
-use Rattle.array_data.specs.Typed.{NodeKind, fixedNode, stringNode, viewNode, listViewNode, listNode, sparseNode, denseNode, runEndNode, dictionaryNode, Tree, nodeOf, kindRule, nodeRule}
+use Rattle.array_data.specs.NodeKinds.{NodeKind, fixedNode, stringNode, viewNode, listViewNode, listNode, sparseNode, denseNode, runEndNode, dictionaryNode, kindAt}
+use Rattle.array_data.specs.Typed.{Tree, nodeOf, kindRule, nodeRule}
 use Rattle.array_data.specs.entries.Entries.{column}
-use Rattle.array_data.specs.type_tree.Lent.{numberOr, kindAt, treeOf}
+use Rattle.array_data.specs.type_tree.Lent.{treeOf}
 use Rattle.array_data.proofs.type_tree.Ids.{both}
 use Rattle.array_data.proofs.type_tree.Shaped.{at-fixed, at-keys, at-string, at-view, at-list, at-lists, at-run, shaped}
 use Rattle.array_data.proofs.type_tree.Lent.{first-child, second-child}

@@ -17,7 +17,8 @@ use Rattle.columnar.specs.Entries.{encodes}
 use Rattle.columnar.specs.Plain.{OffsetsRule}
 use Rattle.columnar.proofs.Items.{entry-end}
 use Rattle.array_data.specs.Tables.{Tables, part, place, lengthOf, firstBuffer, secondBuffer}
-use Rattle.array_data.specs.Typed.{NodeKind, fixedNode, stringNode, viewNode, listViewNode, listNode, sparseNode, denseNode, dictionaryNode, Tree}
+use Rattle.array_data.specs.NodeKinds.{NodeKind, fixedNode, stringNode, viewNode, listViewNode, listNode, sparseNode, denseNode, dictionaryNode}
+use Rattle.array_data.specs.Typed.{Tree}
 use Rattle.walk.specs.State.{setBytes}
 use Rattle.walk.specs.Log.{Out, Did, put, applyIf, done, wrote, need, next}
 use Rattle.walk.proofs.Laws.{done-did, wrote-did, need-no, need-ok, next-need, next-no, next-ok}

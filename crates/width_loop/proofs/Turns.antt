@@ -11,9 +11,10 @@ use Rattle.columnar.specs.Array.{ok}
 use Rattle.schema.specs.formats.Code.{isRunEnd}
 use Rattle.schema.specs.Tree.{codeOf}
 use Rattle.array_data.specs.Tables.{Tables, lengthOf, offsetOf, validOf}
-use Rattle.array_data.specs.Typed.{fixedNode, Tree}
+use Rattle.array_data.specs.NodeKinds.{fixedNode, kindAt}
+use Rattle.array_data.specs.Typed.{Tree, kindIn}
 use Rattle.array_data.specs.entries.Entries.{column}
-use Rattle.array_data.specs.type_tree.Lent.{kindAt, treeOf}
+use Rattle.array_data.specs.type_tree.Lent.{treeOf}
 use Rattle.walk.specs.State.{addRows}
 use Rattle.walk.specs.Log.{Did, next}
 use Rattle.walk.proofs.Laws.{Rest, done-did, next-no, next-ok}
@@ -70,9 +71,9 @@ module _ (formats schema lengths places buffers body plan : List ℕ) (first n t
     unfolding turn ownWalk
     turn-own {b} {s} {m} {g} {room1} {c1} {c2} {room2} e h p q d k o =
         rw (sym (ends-same formats schema first n i) ∙ sym e ∙ h)
-        (subst (λ o. Did plan parts write o room g c2 room2) (ap₂ (λ y z. next (bitsWalk plan i (ok (validOf x i)) y z c) (λ c3. ownAs t t2 x plan (t .kind i) (t2 .kind i) i (ok (validOf x i)) y z (addRows i z c3))) p q)
-        (next-ok (λ c3. ownAs t t2 x plan (t .kind i) (t2 .kind i) i (ok (validOf x i)) s m (addRows i m c3)) d refl
-        (subst (λ z. Did plan parts write (ownAs t t2 x plan (t .kind i) (t2 .kind i) i (ok (validOf x i)) s m z) room1 g c2 room2) k o)))
+        (subst (λ o. Did plan parts write o room g c2 room2) (ap₂ (λ y z. next (bitsWalk plan i (ok (validOf x i)) y z c) (λ c3. ownAs t t2 x plan (kindIn t i) (kindIn t2 i) i (ok (validOf x i)) y z (addRows i z c3))) p q)
+        (next-ok (λ c3. ownAs t t2 x plan (kindIn t i) (kindIn t2 i) i (ok (validOf x i)) s m (addRows i m c3)) d refl
+        (subst (λ z. Did plan parts write (ownAs t t2 x plan (kindIn t i) (kindIn t2 i) i (ok (validOf x i)) s m z) room1 g c2 room2) k o)))
 
   pub settle-own : {s m : ℕ} {out : List ℕ} → s ≡ offsetOf x i + fromIn rs i → m ≡ manyIn rs i → out ≡ settledHere formats schema lengths places buffers body plan first n target i s m rs → out ≡ settle t t2 x plan i rs
   settle-own p q h = h ∙ ap₂ (λ y z. settleAs t t2 x plan (kindAt formats schema first i) i y z rs) p q ∙ sym (settle-is t t2 x plan i (kindAt formats schema first i) rs refl)

@@ -6,6 +6,7 @@ use Prim.Native.Nat.{ℕ, _+_, _<_, _≤_}
 use Rattle.columnar.specs.Array.{ok}
 use Rattle.array_data.specs.Tables.{lengthOf, offsetOf, validOf}
 use Rattle.array_data.specs.entries.Entries.{column}
+use Rattle.array_data.specs.Typed.{kindIn}
 use Rattle.array_data.specs.type_tree.Lent.{treeOf}
 use Rattle.source_rules.specs.kinds.Rows.{tablesOf}
 use Rattle.columns.specs.Grounds.{columnGround}
@@ -29,9 +30,9 @@ module _ (formats schema lengths places buffers body plan : List ℕ) (first n t
   -- what it writes beside its bits
   abbrev pub ownHere : List ℕ → Out
   ownHere c =
-      ownAs (treeOf formats schema first n) (treeOf formats schema target n) (column lengths places buffers body first) plan (treeOf formats schema first n .kind i) (treeOf formats schema target n .kind i) i
+      ownAs (treeOf formats schema first n) (treeOf formats schema target n) (column lengths places buffers body first) plan (kindIn (treeOf formats schema first n) i) (kindIn (treeOf formats schema target n) i) i
       (ok (validOf (column lengths places buffers body first) i)) s m c
 
   -- what it settles
   abbrev pub settledHere : List ℕ → List ℕ
-  settledHere rs = settleAs (treeOf formats schema first n) (treeOf formats schema target n) (column lengths places buffers body first) plan (treeOf formats schema first n .kind i) i s m rs
+  settledHere rs = settleAs (treeOf formats schema first n) (treeOf formats schema target n) (column lengths places buffers body first) plan (kindIn (treeOf formats schema first n) i) i s m rs

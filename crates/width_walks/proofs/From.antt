@@ -9,14 +9,15 @@ use lib.ListN.{length, getD, replicate, length-replicate}
 use lib.Dec.{ltb, eqb}
 use borrow.Author.Tests.{ltb-true, ltb-false}
 use Rattle.columnar.specs.Array.{nullCount}
-use Rattle.columnar.specs.Types.{Number, i8}
+use Rattle.columnar.specs.Types.{Number, int, w1}
 use Rattle.schema.specs.formats.Code.{isFixed, isString, isView, isListView, isList, isUnion, isRunEnd, widthOf}
-use Rattle.schema.specs.formats.Types.{numberOf}
+use Rattle.schema.specs.formats.Types.{numberOf, numberOr}
 use Rattle.schema.specs.Tree.{dictionary, codeOf, idsOf}
 use Rattle.array_data.specs.Tables.{Tables}
-use Rattle.array_data.specs.Typed.{Tree, NodeKind, fixedNode, stringNode, viewNode, listViewNode, listNode, runEndNode}
+use Rattle.array_data.specs.NodeKinds.{NodeKind, fixedNode, stringNode, viewNode, listViewNode, listNode, runEndNode, kindAt}
+use Rattle.array_data.specs.Typed.{Tree}
 use Rattle.array_data.specs.lent_tables.Lent.{tables}
-use Rattle.array_data.specs.type_tree.Lent.{numberOr, kindAt, treeOf}
+use Rattle.array_data.specs.type_tree.Lent.{treeOf}
 use Rattle.array_data.proofs.type_tree.Shaped.{at-run}
 use Rattle.model.proofs.Bits.{length-seg}
 use Rattle.plan.specs.dictionaries.Sources.{arrayOf}
@@ -75,7 +76,7 @@ module _ (formats schema : List ℕ) (first n : ℕ) where
     where
       go : (b : Bool) → isRunEnd (codeOf formats schema first i) ≡ b → isRun (kindAt formats schema first i) ≡ b
       go true e = ap isRun (at-run formats schema first i e)
-      go false e = rw e (no-run (isFixed (codeOf formats schema first i)) (isString (codeOf formats schema first i)) (isView (codeOf formats schema first i)) (isListView (codeOf formats schema first i)) (isList (codeOf formats schema first i)) (isUnion (codeOf formats schema first i)) (eqb (dictionary schema first i) 0) (eqb (codeOf formats schema first i) 21) (numberOr (numberOf (codeOf formats schema first i))) i8 (idsOr (idsOf formats schema first i)) (widthOf (codeOf formats schema first i)) (widthOf (codeOf formats schema first (suc i))))
+      go false e = rw e (no-run (isFixed (codeOf formats schema first i)) (isString (codeOf formats schema first i)) (isView (codeOf formats schema first i)) (isListView (codeOf formats schema first i)) (isList (codeOf formats schema first i)) (isUnion (codeOf formats schema first i)) (eqb (dictionary schema first i) 0) (eqb (codeOf formats schema first i) 21) (numberOr (numberOf (codeOf formats schema first i))) (int w1) (idsOr (idsOf formats schema first i)) (widthOf (codeOf formats schema first i)) (widthOf (codeOf formats schema first (suc i))))
 
   pub ends-same : (i : ℕ) → endsAt formats schema first i ≡ endsIn (treeOf formats schema first n) i
   unfolding endsAt

@@ -17,7 +17,8 @@ use Rattle.schema.specs.Tree as trees
 use Rattle.schema.proofs.Known.{every-at, typed-shape}
 use Rattle.array_data.specs.Tables.{Tables, lengthOf, offsetOf, place, dataBuffer, dataBuffers, inBody}
 use Rattle.array_data.specs.Rules.{oneIn, buffersIn, viewRule}
-use Rattle.array_data.specs.Typed.{Tree, viewNode, tablesFrom, columnOf, kindRule, nodeRule, sourceRule}
+use Rattle.array_data.specs.NodeKinds.{viewNode}
+use Rattle.array_data.specs.Typed.{Tree, tablesFrom, columnOf, kindRule, nodeRule, sourceRule, kindIn}
 use Rattle.array_data.specs.type_tree.Lent.{treeOf, typeOf}
 use Rattle.array_data.proofs.type_tree.Ids.{both}
 use Rattle.array_data.proofs.lent_tables.Laws.{and-left, and-right}
@@ -77,21 +78,21 @@ module _ (formats schema : List ℕ) (x : Tables) (first n : ℕ) (ok : columnGr
 
   -- ---- the data buffers of views
 
-  few-here : (i : ℕ) → i < n → treeOf formats schema first n .kind i ≡ viewNode → place x (first + i) 8 ≤ 32
+  few-here : (i : ℕ) → i < n → kindIn (treeOf formats schema first n) i ≡ viewNode → place x (first + i) 8 ≤ 32
   unfolding nodeFits fewBuffers
   few-here i l e =
       let v : isView (trees.codeOf formats schema first i) ≡ true = subst (ReadsAs formats schema first i) e (reads-at formats schema first i (typed-shape formats schema first n typed-here i l)) in
       let h = both (countFits x (first + i)) (not (isView (trees.codeOf formats schema first i)) || leb (place x (first + i) 8) 32) (fits-at i l) .1 in
       leb-true (place x (first + i) 8) 32 (subst (λ b. not b || leb (place x (first + i) 8) 32 ≡ true) v h)
 
-  view-rule : (i : ℕ) → i < n → treeOf formats schema first n .kind i ≡ viewNode → viewRule own i ≡ true
+  view-rule : (i : ℕ) → i < n → kindIn (treeOf formats schema first n) i ≡ viewNode → viewRule own i ≡ true
   view-rule i l e = is-true _ (subst (λ k. T (kindRule (treeOf formats schema first n) own k i)) e (every-out (nodeRule (treeOf formats schema first n) own) n rule-here i l))
 
   abbrev named : ℕ → ℕ → Bool
   named i q = inBody own (getD (x .buffers) (2 * (place own i 7 + q)) 0) (getD (x .buffers) (2 * (place own i 7 + q) + 1) 0)
 
   module _ (first′ : ℕ) (parts : List ℕ) (h : isTarget formats schema first n first′ n ≡ true) where
-    named-here : (i : ℕ) → i < n → treeOf formats schema first n .kind i ≡ viewNode → (c : List ℕ) (μ : Memory)
+    named-here : (i : ℕ) → i < n → kindIn (treeOf formats schema first n) i ≡ viewNode → (c : List ℕ) (μ : Memory)
         → BuffersNamed (lent formats schema x first n first′ parts typed-here low-here h) (x .buffers) c μ i (dataBuffers own i)
     named-here i l e c μ =
         let r = and-left (oneIn own i && buffersIn own i) _ (view-rule i l e) in

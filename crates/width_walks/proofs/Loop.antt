@@ -7,7 +7,8 @@ use native.Mathlib.Omega.{arith}
 use Rattle.columnar.specs.Types.{Plain}
 use Rattle.columnar.specs.Array.{ok}
 use Rattle.array_data.specs.Tables.{Tables, offsetOf, validOf, arrayWith}
-use Rattle.array_data.specs.Typed.{NodeKind, Tree, plainBody}
+use Rattle.array_data.specs.NodeKinds.{NodeKind}
+use Rattle.array_data.specs.Typed.{Tree, plainBody, kindIn}
 use Rattle.walk.specs.State.{addRows}
 use Rattle.walk.specs.Log.{Out, done, next}
 use Rattle.anew.specs.widths.Widths.{PlainWidths, sFixed, sString}
@@ -23,7 +24,7 @@ module _ (t t′ : Tree) (x : Tables) (plan : List ℕ) where
 
   -- node i is no run ends
   abbrev pub Free : ℕ → Type 0
-  Free i = (j : ℕ) → suc j ≡ i → isRun (t .kind j) ≡ false
+  Free i = (j : ℕ) → suc j ≡ i → isRun (kindIn t j) ≡ false
 
   not-after : (i : ℕ) → Free i → afterRun t t′ x plan i ≡ false
   not-after zero h = refl
@@ -55,7 +56,7 @@ module _ (t t′ : Tree) (x : Tables) (plan : List ℕ) where
   unfolding ownWalk
   node-by F b i m k k′ kinds free rs c h =
       loop-step m i rs c free
-      ∙ next-assoc (bitsWalk plan i okay s n c) (λ c1. ownAs t t′ x plan (t .kind i) (t′ .kind i) i okay s n (addRows i n c1)) (λ c2. nodesWalk t t′ x plan m (suc i) (settle t t′ x plan i rs) c2)
+      ∙ next-assoc (bitsWalk plan i okay s n c) (λ c1. ownAs t t′ x plan (kindIn t i) (kindIn t′ i) i okay s n (addRows i n c1)) (λ c2. nodesWalk t t′ x plan m (suc i) (settle t t′ x plan i rs) c2)
       ∙ next-same (bitsWalk plan i okay s n c) _ (λ c1. F okay b s n (addRows i n c1)) (λ c1. as-kinds (addRows i n c1) ∙ h (addRows i n c1))
     where
       okay : ℕ → Bool
@@ -67,7 +68,7 @@ module _ (t t′ : Tree) (x : Tables) (plan : List ℕ) where
       n : ℕ
       n = manyIn rs i
 
-      as-kinds : (c1 : List ℕ) → next (ownAs t t′ x plan (t .kind i) (t′ .kind i) i (ok (validOf x i)) (offsetOf x i + fromIn rs i) (manyIn rs i) c1) (λ c2. nodesWalk t t′ x plan m (suc i) (settle t t′ x plan i rs) c2)
+      as-kinds : (c1 : List ℕ) → next (ownAs t t′ x plan (kindIn t i) (kindIn t′ i) i (ok (validOf x i)) (offsetOf x i + fromIn rs i) (manyIn rs i) c1) (λ c2. nodesWalk t t′ x plan m (suc i) (settle t t′ x plan i rs) c2)
           ≡ next (ownAs t t′ x plan k k′ i (ok (validOf x i)) (offsetOf x i + fromIn rs i) (manyIn rs i) c1) (λ c2. nodesWalk t t′ x plan m (suc i) (settleAs t t′ x plan k i (offsetOf x i + fromIn rs i) (manyIn rs i) rs) c2)
       as-kinds c1 =
           ap₂ (λ a b. next (ownAs t t′ x plan a b i (ok (validOf x i)) (offsetOf x i + fromIn rs i) (manyIn rs i) c1) (λ c2. nodesWalk t t′ x plan m (suc i) (settle t t′ x plan i rs) c2)) (kinds .here) (kinds .there)

@@ -15,8 +15,9 @@ use Rattle.schema.specs.Tree.{below, endFrom, endOf, childAt, whole, ceilings, 
 use Rattle.schema.proofs.Trees.{children-end, end-after, end-inside, child-inside}
 use Rattle.schema.proofs.Depth.{child-before}
 use Rattle.schema.proofs.Known.{typed-whole, typed-shape}
-use Rattle.array_data.specs.Typed.{NodeKind, fixedNode, stringNode, viewNode, listViewNode, listNode, sparseNode, denseNode, runEndNode, dictionaryNode, Tree, childNode, nodeOf, fieldOf, Is, MeansPlain, Means}
-use Rattle.array_data.specs.type_tree.Lent.{kindAt, treeOf, typeOf}
+use Rattle.array_data.specs.NodeKinds.{NodeKind, fixedNode, stringNode, viewNode, listViewNode, listNode, sparseNode, denseNode, runEndNode, dictionaryNode, kindAt}
+use Rattle.array_data.specs.Typed.{Tree, childNode, nodeOf, fieldOf, Is, MeansPlain, Means, kindIn}
+use Rattle.array_data.specs.type_tree.Lent.{treeOf, typeOf}
 use Rattle.array_data.proofs.type_tree.Shaped.{Shaped, of-plain, of-view, of-list, of-lists, of-sparse, of-dense, of-run, of-dictionary, shaped}
 use Rattle.array_data.proofs.type_tree.Lent.{child-same, after-leaf, second-child, means, whole-end}
 use Rattle.refinement.specs.walk_is_model.Holds.{childOf}
@@ -81,7 +82,7 @@ module _ (formats schema : List ℕ) (first first′ n : ℕ) (plan : List ℕ) 
   w : whole schema first n ≡ true
   w = typed-whole formats schema first n t
 
-  below-at : (i : ℕ) (k : NodeKind) → i < n → here .kind i ≡ k → BelowAs formats schema first i k
+  below-at : (i : ℕ) (k : NodeKind) → i < n → kindIn here i ≡ k → BelowAs formats schema first i k
   below-at i k l e = subst (BelowAs formats schema first i) e (below-of formats schema first i (shaped formats schema first i (typed-shape formats schema first n t i l)))
 
   run-big : (m : ℕ) → m < n → isRun (kindAt formats schema first m) ≡ true → 0 < below schema first m

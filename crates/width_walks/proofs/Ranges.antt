@@ -9,7 +9,8 @@ use lib.Seq.{getD-set-same, getD-set-other}
 use lib.Dec.{ltb}
 use borrow.Author.Tests.{ltb-true, ltb-false}
 use Rattle.array_data.specs.Tables.{Tables, offsetOf}
-use Rattle.array_data.specs.Typed.{NodeKind, Tree, childNode}
+use Rattle.array_data.specs.NodeKinds.{NodeKind}
+use Rattle.array_data.specs.Typed.{Tree, childNode, kindIn, subtreeEnd}
 use Rattle.width_walks.specs.Nodes.{fromIn, manyIn, range, childRanges, settleAs, settle, rangesBehind}
 
 -- ---- one range
@@ -48,7 +49,7 @@ module _ (t : Tree) where
   -- children one behind the other, from node k to e
   abbrev pub SpansFields : (ℕ → ℕ → Type 0) → List ℕ → ℕ → ℕ → Type 0
   SpansFields kid [] k e = k ≡ e
-  SpansFields kid (c ∷ cs) k e = kid c k × (k < t .end k) × (t .end k ≤ e) × SpansFields kid cs (t .end k) e
+  SpansFields kid (c ∷ cs) k e = kid c k × (k < subtreeEnd t k) × (subtreeEnd t k ≤ e) × SpansFields kid cs (subtreeEnd t k) e
 
   -- child j of node i, where the first p stand before node k
   child-at : (kid : ℕ → ℕ → Type 0) (cs : List ℕ) (i k e p j : ℕ) → SpansFields kid cs k e → childNode t i p ≡ k → j < length cs → (k ≤ childNode t i (p + j)) × (childNode t i (p + j) < e)
@@ -57,7 +58,7 @@ module _ (t : Tree) where
       let z : childNode t i (p + 0) ≡ k = ap (childNode t i) (let y : p + 0 ≡ p = omega arith in y) ∙ q in (omega (arith, z), omega (arith, z, h .1, h .2))
   child-at kid (c ∷ cs) i k e p (suc j) h q l =
       let z : suc p + j ≡ p + suc j = omega arith in
-      let r = child-at kid cs i (t .end k) e (suc p) j (h .3) (ap (t .end) q) (omega arith) in
+      let r = child-at kid cs i (subtreeEnd t k) e (suc p) j (h .3) (ap (subtreeEnd t) q) (omega arith) in
       let y : childNode t i (p + suc j) ≡ childNode t i (suc p + j) = ap (childNode t i) (sym z) in
       (omega (arith, y, r .0, h .1), omega (arith, y, r .1))
 
@@ -68,22 +69,22 @@ module _ (t : Tree) where
   child-rises kid (c ∷ cs) i k e p zero (suc m) h q a b =
       let z : childNode t i (p + 0) ≡ k = ap (childNode t i) (let y : p + 0 ≡ p = omega arith in y) ∙ q in
       let w : childNode t i (p + suc m) ≡ childNode t i (suc p + m) = ap (childNode t i) (let y : p + suc m ≡ suc p + m = omega arith in y) in
-      omega (arith, z, w, h .1, child-at kid cs i (t .end k) e (suc p) m (h .3) (ap (t .end) q) (omega arith) .0)
+      omega (arith, z, w, h .1, child-at kid cs i (subtreeEnd t k) e (suc p) m (h .3) (ap (subtreeEnd t) q) (omega arith) .0)
   child-rises kid (c ∷ cs) i k e p (suc j) zero h q a b = absurd (omega arith)
   child-rises kid (c ∷ cs) i k e p (suc j) (suc m) h q a b =
       let w : childNode t i (p + suc m) ≡ childNode t i (suc p + m) = ap (childNode t i) (let y : p + suc m ≡ suc p + m = omega arith in y) in
       let v : childNode t i (p + suc j) ≡ childNode t i (suc p + j) = ap (childNode t i) (let y : p + suc j ≡ suc p + j = omega arith in y) in
-      omega (arith, w, v, child-rises kid cs i (t .end k) e (suc p) j m (h .3) (ap (t .end) q) (omega arith) (omega arith))
+      omega (arith, w, v, child-rises kid cs i (subtreeEnd t k) e (suc p) j m (h .3) (ap (subtreeEnd t) q) (omega arith) (omega arith))
 
-  module _ (kid : ℕ → ℕ → Type 0) (ids : List ℕ) (i : ℕ) (h : SpansFields kid ids (suc i) (t .end i)) where
+  module _ (kid : ℕ → ℕ → Type 0) (ids : List ℕ) (i : ℕ) (h : SpansFields kid ids (suc i) (subtreeEnd t i)) where
     zero-plus : (j : ℕ) → childNode t i (0 + j) ≡ childNode t i j
     zero-plus j = ap (childNode t i) (let y : 0 + j ≡ j = omega arith in y)
 
-    pub child-in : (j : ℕ) → j < length ids → (i < childNode t i j) × (childNode t i j < t .end i)
-    child-in j l = let r = child-at kid ids i (suc i) (t .end i) 0 j h refl l in (omega (arith, r .0, zero-plus j), omega (arith, r .1, zero-plus j))
+    pub child-in : (j : ℕ) → j < length ids → (i < childNode t i j) × (childNode t i j < subtreeEnd t i)
+    child-in j l = let r = child-at kid ids i (suc i) (subtreeEnd t i) 0 j h refl l in (omega (arith, r .0, zero-plus j), omega (arith, r .1, zero-plus j))
 
     pub child-before : (j m : ℕ) → j < m → m < length ids → childNode t i j < childNode t i m
-    child-before j m a b = omega (arith, child-rises kid ids i (suc i) (t .end i) 0 j m h refl a b, zero-plus j, zero-plus m)
+    child-before j m a b = omega (arith, child-rises kid ids i (suc i) (subtreeEnd t i) 0 j m h refl a b, zero-plus j, zero-plus m)
 
 -- ---- ranges of a subtree's nodes alone are changed
 
@@ -106,15 +107,15 @@ kept-wide p q a = record { long = a .long; outside = λ k h. a .outside k (λ u 
 module _ (t t′ : Tree) (x : Tables) (plan : List ℕ) where
   -- ---- the children of a union
 
-  module _ (a n : ℕ → ℕ) (i : ℕ) (kid : ℕ → ℕ → Type 0) (ids : List ℕ) (h : SpansFields t kid ids (suc i) (t .end i)) where
-    pub children-kept : (k : ℕ) → k ≤ length ids → (rs : List ℕ) → RangesKept (suc i) (t .end i) rs (childRanges t t′ x plan a n i k rs)
-    children-kept zero l rs = kept-none (suc i) (t .end i) rs
+  module _ (a n : ℕ → ℕ) (i : ℕ) (kid : ℕ → ℕ → Type 0) (ids : List ℕ) (h : SpansFields t kid ids (suc i) (subtreeEnd t i)) where
+    pub children-kept : (k : ℕ) → k ≤ length ids → (rs : List ℕ) → RangesKept (suc i) (subtreeEnd t i) rs (childRanges t t′ x plan a n i k rs)
+    children-kept zero l rs = kept-none (suc i) (subtreeEnd t i) rs
     children-kept (suc k) l rs =
         let c = child-in t kid ids i h k (omega arith) in
         kept-then (children-kept k (omega arith) rs)
-        (kept-range (suc i) (t .end i) (childNode t i k) (a (childNode t i k)) (n (childNode t i k)) (childRanges t t′ x plan a n i k rs) (omega (arith, c .0)) (c .1))
+        (kept-range (suc i) (subtreeEnd t i) (childNode t i k) (a (childNode t i k)) (n (childNode t i k)) (childRanges t t′ x plan a n i k rs) (omega (arith, c .0)) (c .1))
 
-    pub child-range : (low : t .end i ≤ 32) (k : ℕ) → k ≤ length ids → (rs : List ℕ) → length rs ≡ 64 → (j : ℕ) → j < k
+    pub child-range : (low : subtreeEnd t i ≤ 32) (k : ℕ) → k ≤ length ids → (rs : List ℕ) → length rs ≡ 64 → (j : ℕ) → j < k
         → (fromIn (childRanges t t′ x plan a n i k rs) (childNode t i j) ≡ a (childNode t i j)) × (manyIn (childRanges t t′ x plan a n i k rs) (childNode t i j) ≡ n (childNode t i j))
     child-range low zero l rs long j q = absurd (omega arith)
     child-range low (suc k) l rs long j q = go (ltb j k) refl (child-range low k (omega arith) rs long j)
@@ -139,7 +140,7 @@ module _ (t t′ : Tree) (x : Tables) (plan : List ℕ) where
 
   -- ---- a subtree
 
-  pub settle-is : (i : ℕ) (k : NodeKind) (rs : List ℕ) → t .kind i ≡ k → settle t t′ x plan i rs ≡ settleAs t t′ x plan k i (offsetOf x i + fromIn rs i) (manyIn rs i) rs
+  pub settle-is : (i : ℕ) (k : NodeKind) (rs : List ℕ) → kindIn t i ≡ k → settle t t′ x plan i rs ≡ settleAs t t′ x plan k i (offsetOf x i + fromIn rs i) (manyIn rs i) rs
   unfolding settle
   settle-is i k rs e = ap (λ z. settleAs t t′ x plan z i (offsetOf x i + fromIn rs i) (manyIn rs i) rs) e
 

@@ -14,9 +14,10 @@ use Rattle.schema.specs.Tree.{ceilings, typed}
 use Rattle.schema.specs.Tree as trees
 use Rattle.schema.proofs.Known.{typed-whole}
 use Rattle.array_data.specs.Tables.{Tables, lengthOf, dataBuffers, arrayWith}
-use Rattle.array_data.specs.Typed.{viewNode, Tree, tablesFrom, bodyOf, columnOf}
+use Rattle.array_data.specs.NodeKinds.{viewNode, kindAt}
+use Rattle.array_data.specs.Typed.{Tree, tablesFrom, bodyOf, columnOf, kindIn}
 use Rattle.array_data.specs.lent_tables.Lent.{tables}
-use Rattle.array_data.specs.type_tree.Lent.{kindAt, treeOf, typeOf}
+use Rattle.array_data.specs.type_tree.Lent.{treeOf, typeOf}
 use Rattle.array_data.proofs.type_tree.Shaped.{at-run}
 use Rattle.array_data.proofs.type_tree.Lent.{some-node, whole-end}
 use Rattle.walk.specs.State.{codeOf, endOf, keepsOf, top}
@@ -87,7 +88,7 @@ module _ (formats schema : List ℕ) (x : Tables) (first n first′ : ℕ) (part
   -- WHAT IS GIVEN, where the column obeys, its lengths fit counters, the body's bytes are bytes, and the data buffers of its views are named
   pub given : (d : Widths (typeOf formats schema first n) (typeOf formats schema first′ n)) → Source (typeOf formats schema first n) (columnOf here (tablesFrom x first) (typeOf formats schema first n) 0)
       → ((i : ℕ) → i < n → lengthOf (tablesFrom x first) i ≤ top) → AllBelow 256 (x .body)
-      → ((i : ℕ) → i < n → here .kind i ≡ viewNode → (c : List ℕ) (μ : Memory) → BuffersNamed lent (x .buffers) c μ i (dataBuffers (tablesFrom x first) i))
+      → ((i : ℕ) → i < n → kindIn here i ≡ viewNode → (c : List ℕ) (μ : Memory) → BuffersNamed lent (x .buffers) c μ i (dataBuffers (tablesFrom x first) i))
       → Given here there (tablesFrom x first) lent (x .buffers) (typeOf formats schema first n) (typeOf formats schema first′ n) d
   given d source small bytes named =
       let words = of-type formats schema first′ n keep (target .of-type) (target .low) no-ends in

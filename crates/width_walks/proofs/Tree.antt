@@ -14,7 +14,8 @@ use Rattle.columnar.specs.Test.{member}
 use Rattle.columnar.specs.Wider.{Declared}
 use Rattle.columnar.proofs.WiderKinds.{declares}
 use Rattle.array_data.specs.Tables.{Tables, lengthOf, offsetOf, firstBuffer, arrayWith}
-use Rattle.array_data.specs.Typed.{NodeKind, fixedNode, viewNode, listViewNode, listNode, sparseNode, denseNode, runEndNode, dictionaryNode, Tree, nodeOf, fieldOf, plainBody, bodyOf, columnOf}
+use Rattle.array_data.specs.NodeKinds.{NodeKind, fixedNode, viewNode, listViewNode, listNode, sparseNode, denseNode, runEndNode, dictionaryNode}
+use Rattle.array_data.specs.Typed.{Tree, nodeOf, fieldOf, plainBody, bodyOf, columnOf, kindIn, subtreeEnd}
 use Rattle.array_data.proofs.type_tree.Ids.{field-in}
 use Rattle.walk.specs.State.{addRows}
 use Rattle.walk.specs.Log.{Out, put, done, wrote, need, next}
@@ -33,11 +34,11 @@ use Rattle.width_walks.proofs.Subtrees.{laid-spans, plain-settles, laid
 module _ (t t′ : Tree) (x : Tables) (plan : List ℕ) where
   abbrev pub LoopLaw : {u u′ : Ty} → Widths u u′ → Type 0
   LoopLaw {u} {u′} d =
-      (i m : ℕ) → Laid t t′ plan d i → m + i ≡ t .end i → Free t t′ x plan i → t .end i ≤ 32 → (rs : List ℕ) → length rs ≡ 64 → (c : List ℕ)
+      (i m : ℕ) → Laid t t′ plan d i → m + i ≡ subtreeEnd t i → Free t t′ x plan i → subtreeEnd t i ≤ 32 → (rs : List ℕ) → length rs ≡ 64 → (c : List ℕ)
       → Loop t t′ x plan m i rs c ≡ nodeWalk plan i (bodyWalk plan d i) (columnOf t x u i) (fromIn rs i) (manyIn rs i) c
 
   -- a child whose rows were settled
-  child-loop : {u u′ : Ty} (d : Widths u u′) → LoopLaw d → (i m a n : ℕ) → Laid t t′ plan d i → m + i ≡ t .end i → Free t t′ x plan i → i < t .end i → t .end i ≤ 32 → (rs : List ℕ) → length rs ≡ 64 → (c : List ℕ)
+  child-loop : {u u′ : Ty} (d : Widths u u′) → LoopLaw d → (i m a n : ℕ) → Laid t t′ plan d i → m + i ≡ subtreeEnd t i → Free t t′ x plan i → i < subtreeEnd t i → subtreeEnd t i ≤ 32 → (rs : List ℕ) → length rs ≡ 64 → (c : List ℕ)
       → Loop t t′ x plan m i (range i a n rs) c ≡ nodeWalk plan i (bodyWalk plan d i) (columnOf t x u i) a n c
   child-loop {u} {u′} d law i m a n l h free up low rs long c =
       law i m l h free low (range i a n rs) (range-long i a n rs ∙ long) c
@@ -60,10 +61,10 @@ module _ (t t′ : Tree) (x : Tables) (plan : List ℕ) where
     abbrev Settled : List ℕ → List ℕ → Type 0
     Settled cs rs = (c : ℕ) → List·Memᴰ c cs → (fromIn rs (nodeOf t i ids c) ≡ from c) × (manyIn rs (nodeOf t i ids c) ≡ many c)
 
-    one : (c k : ℕ) (m : List·Memᴰ c ids) → Laid t t′ plan (d c (declares c ids m)) k → childOf plan i c ≡ k → nodeOf t i ids c ≡ k → Free t t′ x plan k → k < t .end k → t .end k ≤ 32
-        → (rs : List ℕ) → length rs ≡ 64 → (fromIn rs (nodeOf t i ids c) ≡ from c) × (manyIn rs (nodeOf t i ids c) ≡ many c) → (cs : List ℕ) → Loop t t′ x plan (t .end k - k) k rs cs ≡ walked c cs
+    one : (c k : ℕ) (m : List·Memᴰ c ids) → Laid t t′ plan (d c (declares c ids m)) k → childOf plan i c ≡ k → nodeOf t i ids c ≡ k → Free t t′ x plan k → k < subtreeEnd t k → subtreeEnd t k ≤ 32
+        → (rs : List ℕ) → length rs ≡ 64 → (fromIn rs (nodeOf t i ids c) ≡ from c) × (manyIn rs (nodeOf t i ids c) ≡ many c) → (cs : List ℕ) → Loop t t′ x plan (subtreeEnd t k - k) k rs cs ≡ walked c cs
     one c k m l p n free up small rs long r cs =
-        law c (declares c ids m) k (t .end k - k) l (omega arith) free small rs long cs
+        law c (declares c ids m) k (subtreeEnd t k - k) l (omega arith) free small rs long cs
         ∙ ap₂ (λ y z. nodeWalk plan k (bodyWalk plan (d c (declares c ids m)) k) (columnOf t x (f c) k) y z cs) (ap (fromIn rs) (sym n) ∙ r .0) (ap (manyIn rs) (sym n) ∙ r .1)
         ∙ ap (λ z. nodeWalk plan k (bodyWalk plan (d c (declares c ids m)) k) (columnOf t x (f c) z) (from c) (many c) cs) (sym n)
         ∙ ap (λ z. nodeWalk plan z (bodyWalk plan (d c (declares c ids m)) z) (columnOf t x (f c) (nodeOf t i ids c)) (from c) (many c) cs) (sym p)
@@ -73,9 +74,9 @@ module _ (t t′ : Tree) (x : Tables) (plan : List ℕ) where
         → (rs : List ℕ) → length rs ≡ 64 → Settled cs rs → (c : List ℕ) → Loop t t′ x plan m k rs c ≡ fieldsWalk cs walked c
     fields-loop m sub (no-field k q) h rs long r c = ap (λ z. Loop t t′ x plan z k rs c) (let y : m ≡ zero = omega (arith, q) in y) ∙ loop-none t t′ x plan k rs c
     fields-loop m sub (a-field c ds k l p n a b free g) h rs long r cs =
-        let m1 = t .end k - k in
-        let m2 = e - t .end k in
-        let s : m1 + k ≡ t .end k = omega (arith, a) in
+        let m1 = subtreeEnd t k - k in
+        let m2 = e - subtreeEnd t k in
+        let s : m1 + k ≡ subtreeEnd t k = omega (arith, a) in
         let q = sub c (List·Memᴰ·head refl) in
         let kept = kept-law t t′ x plan (f c) (f′ c) (d c (declares c ids q)) k m1 (l (declares c ids q)) s rs in
         loop-split t t′ x plan m1 m2 m k rs cs (omega (arith, a, b))
@@ -90,8 +91,8 @@ module _ (t t′ : Tree) (x : Tables) (plan : List ℕ) where
   suc-of : (m i e : ℕ) → m + i ≡ e → i < e → m ≡ suc (m - 1)
   suc-of m i e h l = omega arith
 
-  free-of : (i : ℕ) (k : NodeKind) → t .kind i ≡ k → isRun k ≡ false → Free t t′ x plan (suc i)
-  free-of i k e q j z = ap (λ y. isRun (t .kind y)) (let y : j ≡ i = omega arith in y) ∙ ap isRun e ∙ q
+  free-of : (i : ℕ) (k : NodeKind) → kindIn t i ≡ k → isRun k ≡ false → Free t t′ x plan (suc i)
+  free-of i k e q j z = ap (λ y. isRun (kindIn t y)) (let y : j ≡ i = omega arith in y) ∙ ap isRun e ∙ q
 
   runs-same : {P : Type 0} (w : ℕ) (b : RunEnd P) (i s n : ℕ) → b .ends ≡ runsAt t t′ x plan i .ends
       → (firstOf w (runsAt t t′ x plan i) s n ≡ firstOf w b s n) × (manyOf w (runsAt t t′ x plan i) s n ≡ manyOf w b s n)
@@ -102,12 +103,12 @@ module _ (t t′ : Tree) (x : Tables) (plan : List ℕ) where
   )
 
   -- the run ends' own turn, and then their values
-  ends-turn : (i m w : ℕ) (v v′ : Ty) {w′ : ℕ} (d : Widths v v′) (rs : List ℕ) → Laid t t′ plan (sRunEnd w w′ v v′ d) i → 2 < suc m → LoopLaw d → suc (suc i) < t .end (suc (suc i)) → t .end i ≤ 32 → m + i ≡ t .end i → length rs ≡ 64 → (c : List ℕ)
+  ends-turn : (i m w : ℕ) (v v′ : Ty) {w′ : ℕ} (d : Widths v v′) (rs : List ℕ) → Laid t t′ plan (sRunEnd w w′ v v′ d) i → 2 < suc m → LoopLaw d → suc (suc i) < subtreeEnd t (suc (suc i)) → subtreeEnd t i ≤ 32 → m + i ≡ subtreeEnd t i → length rs ≡ 64 → (c : List ℕ)
       → Loop t t′ x plan (m - 1) (suc i) (range (suc (suc i)) (firstOf w (runsAt t t′ x plan i) (offsetOf x i + fromIn rs i) (manyIn rs i)) (manyOf w (runsAt t t′ x plan i) (offsetOf x i + fromIn rs i) (manyIn rs i)) rs) c
       ≡ nodeWalk plan (suc (suc i)) (bodyWalk plan d (suc (suc i))) (columnOf t x v (suc (suc i))) (firstOf w (runsAt t t′ x plan i) (offsetOf x i + fromIn rs i) (manyIn rs i)) (manyOf w (runsAt t t′ x plan i) (offsetOf x i + fromIn rs i) (manyIn rs i)) c
   unfolding nodesWalk turn
   ends-turn i m w v v′ d rs l two law up low h long c =
-      let e : t .end i ≡ t .end (suc (suc i)) = l .2 in
+      let e : subtreeEnd t i ≡ subtreeEnd t (suc (suc i)) = l .2 in
       let a = firstOf w (runsAt t t′ x plan i) (offsetOf x i + fromIn rs i) (manyIn rs i) in
       let n = manyOf w (runsAt t t′ x plan i) (offsetOf x i + fromIn rs i) (manyIn rs i) in
       let r1 = range (suc (suc i)) a n rs in
@@ -123,9 +124,9 @@ module _ (t t′ : Tree) (x : Tables) (plan : List ℕ) where
       ap (λ z. Loop t t′ x plan z i rs c) (let y : m ≡ suc zero = omega (arith, l .1) in y)
       ∙ node-by t t′ x plan (bodyWalk plan sView i) (bodyOf t x u i) i zero viewNode viewNode (l .0) free rs c (λ c1. leaf-end t t′ x plan _ (suc i) _)
   loop-law u u′ (sListView w w′ v v′ d) i m l h free low rs long c =
-      let e : t .end i ≡ t .end (suc i) = l .1 in
+      let e : subtreeEnd t i ≡ subtreeEnd t (suc i) = l .1 in
       let up = laid-up t t′ x plan v v′ d (suc i) (l .2) in
-      ap (λ z. Loop t t′ x plan z i rs c) (suc-of m i (t .end i) h (omega (arith, e)))
+      ap (λ z. Loop t t′ x plan z i rs c) (suc-of m i (subtreeEnd t i) h (omega (arith, e)))
       ∙ node-by t t′ x plan (bodyWalk plan (sListView w w′ v v′ d) i) (bodyOf t x u i) i (m - 1) (listViewNode w) (listViewNode w′) (l .0) free rs c
       (λ c1. next-need _ 6 c1 _ _ (omega arith)
       ∙ ap (need _ 6 c1)
@@ -134,34 +135,34 @@ module _ (t t′ : Tree) (x : Tables) (plan : List ℕ) where
       (next-assoc _ _ _
       ∙ next-same _ _ _ (λ c2. next-same _ _ _ (λ c3. child-loop d (loop-law v v′ d) (suc i) (m - 1) 0 (lengthOf x (suc i)) (l .2) (omega (arith, e)) (free-of i (listViewNode w) (l .0 .here) refl) up (omega (arith, e)) rs long c3)))))
   loop-law u u′ (sList w w′ v v′ d) i m l h free low rs long c =
-      let e : t .end i ≡ t .end (suc i) = l .1 in
+      let e : subtreeEnd t i ≡ subtreeEnd t (suc i) = l .1 in
       let up = laid-up t t′ x plan v v′ d (suc i) (l .2) in
-      ap (λ z. Loop t t′ x plan z i rs c) (suc-of m i (t .end i) h (omega (arith, e)))
+      ap (λ z. Loop t t′ x plan z i rs c) (suc-of m i (subtreeEnd t i) h (omega (arith, e)))
       ∙ node-by t t′ x plan (bodyWalk plan (sList w w′ v v′ d) i) (bodyOf t x u i) i (m - 1) (listNode w) (listNode w′) (l .0) free rs c
       (λ c1. next-need _ 6 c1 _ _ (omega arith)
       ∙ ap (need _ 6 c1)
       (next-same _ _ _ (λ c3. child-loop d (loop-law v v′ d) (suc i) (m - 1) (item w (firstBuffer x i) (offsetOf x i + fromIn rs i)) (spanOf w (firstBuffer x i) (offsetOf x i + fromIn rs i) (manyIn rs i)) (l .2) (omega (arith, e)) (free-of i (listNode w) (l .0 .here) refl) up (omega (arith, e)) rs long c3)))
   loop-law u u′ (sSparse ids nullable nullable′ f f′ q d) i m l h free low rs long c =
-      ap (λ z. Loop t t′ x plan z i rs c) (suc-of m i (t .end i) h (l .1))
+      ap (λ z. Loop t t′ x plan z i rs c) (suc-of m i (subtreeEnd t i) h (l .1))
       ∙ node-by t t′ x plan (bodyWalk plan (sSparse ids nullable nullable′ f f′ q d) i) (bodyOf t x u i) i (m - 1) (sparseNode ids) (sparseNode ids) (l .0) free rs c
-      (λ c1. next-same _ _ _ (λ c2. fields-loop i ids d (λ e y. loop-law (f e) (f′ e) (d e y)) (λ e. offsetOf x i + fromIn rs i) (λ e. manyIn rs i) (t .end i) low (m - 1) (λ e z. z) (l .2) (omega (arith, l .1)) _
+      (λ c1. next-same _ _ _ (λ c2. fields-loop i ids d (λ e y. loop-law (f e) (f′ e) (d e y)) (λ e. offsetOf x i + fromIn rs i) (λ e. manyIn rs i) (subtreeEnd t i) low (m - 1) (λ e z. z) (l .2) (omega (arith, l .1)) _
       (children-kept t t′ x plan (λ k. offsetOf x i + fromIn rs i) (λ k. manyIn rs i) i _ ids (laid-spans (l .2)) (length ids) (omega arith) rs .long ∙ long)
       (λ e z. child-range t t′ x plan (λ k. offsetOf x i + fromIn rs i) (λ k. manyIn rs i) i _ ids (laid-spans (l .2)) low (length ids) (omega arith) rs long (fieldOf ids e) (field-in ids e z)) c2))
   loop-law u u′ (sDense ids nullable nullable′ f f′ q d) i m l h free low rs long c =
-      ap (λ z. Loop t t′ x plan z i rs c) (suc-of m i (t .end i) h (l .1))
+      ap (λ z. Loop t t′ x plan z i rs c) (suc-of m i (subtreeEnd t i) h (l .1))
       ∙ node-by t t′ x plan (bodyWalk plan (sDense ids nullable nullable′ f f′ q d) i) (bodyOf t x u i) i (m - 1) (denseNode ids) (denseNode ids) (l .0) free rs c
       (λ c1. next-assoc _ _ _
-      ∙ next-same _ _ _ (λ c2. next-same _ _ _ (λ c3. fields-loop i ids d (λ e y. loop-law (f e) (f′ e) (d e y)) (λ e. 0) (λ e. lengthOf x (nodeOf t i ids e)) (t .end i) low (m - 1) (λ e z. z) (l .2) (omega (arith, l .1)) _
+      ∙ next-same _ _ _ (λ c2. next-same _ _ _ (λ c3. fields-loop i ids d (λ e y. loop-law (f e) (f′ e) (d e y)) (λ e. 0) (λ e. lengthOf x (nodeOf t i ids e)) (subtreeEnd t i) low (m - 1) (λ e z. z) (l .2) (omega (arith, l .1)) _
       (children-kept t t′ x plan (λ k. 0) (lengthOf x) i _ ids (laid-spans (l .2)) (length ids) (omega arith) rs .long ∙ long)
       (λ e z. child-range t t′ x plan (λ k. 0) (lengthOf x) i _ ids (laid-spans (l .2)) low (length ids) (omega arith) rs long (fieldOf ids e) (field-in ids e z)) c3)))
   loop-law u u′ (sRunEnd w w′ v v′ d) i m l h free low rs long c =
-      let e : t .end i ≡ t .end (suc (suc i)) = l .2 in
+      let e : subtreeEnd t i ≡ subtreeEnd t (suc (suc i)) = l .2 in
       let up = laid-up t t′ x plan v v′ d (suc (suc i)) (l .3) in
       let s = offsetOf x i + fromIn rs i in
       let n = manyIn rs i in
       let b = bodyOf t x (tRunEnd w v) i in
       let r = runs-same w b i s n refl in
-      ap (λ z. Loop t t′ x plan z i rs c) (suc-of m i (t .end i) h (omega (arith, e)))
+      ap (λ z. Loop t t′ x plan z i rs c) (suc-of m i (subtreeEnd t i) h (omega (arith, e)))
       ∙ node-by t t′ x plan (bodyWalk plan (sRunEnd w w′ v v′ d) i) b i (m - 1) (runEndNode w) (runEndNode w′) (l .0) free rs c
       (λ c1. next-need _ 7 c1 _ _ (omega arith)
       ∙ ap (need _ 7 c1)
@@ -169,8 +170,8 @@ module _ (t t′ : Tree) (x : Tables) (plan : List ℕ) where
       ∙ next-same _ _ _ (λ c2. next-start _ _ ∙ ends-turn i m w v v′ d rs l (omega (arith, e)) (loop-law v v′ d) up low h long (addRows (suc i) (manyOf w (runsAt t t′ x plan i) s n) c2))
       ∙ ap₂ (λ a y. next (wrote (put (suc i) 1 0 (encodes w′ (seg (λ k. min (endOf w (b .ends) k) (s + n) - s) a y))) c1) (λ c2. nodeWalk plan (suc (suc i)) (bodyWalk plan d (suc (suc i))) (b .values) a y (addRows (suc i) y c2))) (r .0) (r .1)))
   loop-law u u′ (sDictionary k k′ p p′ z z′ d) i m l h free low rs long c =
-      let e : t .end i ≡ suc (suc i) = l .2 in
-      ap (λ z. Loop t t′ x plan z i rs c) (suc-of m i (t .end i) h (omega (arith, e)))
+      let e : subtreeEnd t i ≡ suc (suc i) = l .2 in
+      ap (λ z. Loop t t′ x plan z i rs c) (suc-of m i (subtreeEnd t i) h (omega (arith, e)))
       ∙ node-by t t′ x plan (bodyWalk plan (sDictionary k k′ p p′ z z′ d) i) (bodyOf t x u i) i (m - 1) (dictionaryNode k) (dictionaryNode k′) (l .0) free rs c
       (λ c1. next-need _ 8 c1 _ _ (omega arith)
       ∙ ap (need _ 8 c1)
@@ -178,7 +179,7 @@ module _ (t t′ : Tree) (x : Tables) (plan : List ℕ) where
       ∙ ap₂ (λ a n. nodeWalk plan (suc i) (plainWalk plan d (suc i)) (arrayWith x (plainBody t x p (suc i)) (suc i)) a n c3) (own-from (suc i) 0 (lengthOf x (suc i)) rs long (omega (arith, e))) (own-many (suc i) 0 (lengthOf x (suc i)) rs long (omega (arith, e))))))
 
   -- THE LOOP OVER ALL NODES IS THE WALK OF THE COLUMN
-  pub tree-is : (u u′ : Ty) (d : Widths u u′) → Laid t t′ plan d 0 → t .count ≡ t .end 0 → t .end 0 ≤ 32 → (c : List ℕ) → treeWalk t t′ x plan c ≡ convertWalk plan u u′ d (columnOf t x u 0) c
+  pub tree-is : (u u′ : Ty) (d : Widths u u′) → Laid t t′ plan d 0 → t .count ≡ subtreeEnd t 0 → subtreeEnd t 0 ≤ 32 → (c : List ℕ) → treeWalk t t′ x plan c ≡ convertWalk plan u u′ d (columnOf t x u 0) c
   unfolding treeWalk
   tree-is u u′ d l e low c =
-      child-loop d (loop-law u u′ d) 0 (t .count) 0 (lengthOf x 0) l (let y : t .count + 0 ≡ t .end 0 = omega (arith, e) in y) (λ j z. absurd (omega arith)) (laid-up t t′ x plan u u′ d 0 l) low (replicate 64 0) refl c
+      child-loop d (loop-law u u′ d) 0 (t .count) 0 (lengthOf x 0) l (let y : t .count + 0 ≡ subtreeEnd t 0 = omega (arith, e) in y) (λ j z. absurd (omega arith)) (laid-up t t′ x plan u u′ d 0 l) low (replicate 64 0) refl c

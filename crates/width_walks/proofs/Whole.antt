@@ -8,7 +8,7 @@ use Rattle.columnar.specs.Types.{Ty}
 use Rattle.columnar.specs.Formed.{Formed}
 use Rattle.columnar.specs.Reading.{Column, Source}
 use Rattle.array_data.specs.Tables.{Tables}
-use Rattle.array_data.specs.Typed.{Tree, bodyOf, columnOf}
+use Rattle.array_data.specs.Typed.{Tree, bodyOf, columnOf, subtreeEnd}
 use Rattle.model.specs.Try.{Try, done, stop, then}
 use Rattle.walk.specs.Log.{Out}
 use Rattle.plan.specs.parts.Parts.{Used}
@@ -34,7 +34,7 @@ use Rattle.width_walks.proofs.Convert.{convert-goes}
 use Rattle.width_walks.proofs.Used.{PartsBits, PartsIn, BytesIn, convert-uses}
 
 -- the column of the tables y in the tree t, in the widths of the tree t′: refused by the ground of `converted`, and else it stands
-pub tree-goes : (t t′ : Tree) (y : Tables) (x : Lent) (buffers : List ℕ) (u u′ : Ty) (d : Widths u u′) → Laid t t′ (x .plan) d 0 → t .count ≡ t .end 0 → t .end 0 ≤ 32
+pub tree-goes : (t t′ : Tree) (y : Tables) (x : Lent) (buffers : List ℕ) (u u′ : Ty) (d : Widths u u′) → Laid t t′ (x .plan) d 0 → t .count ≡ subtreeEnd t 0 → subtreeEnd t 0 ≤ 32
     → (k : ℕ) → Worded (x .plan) k u′ 0 → Formed u′ → InParts (x .plan) u′ 0 → Source u (columnOf t y u 0) → Ready x buffers u 0 (columnOf t y u 0)
     → Goes empty (λ z c μ. Stood x buffers c μ u′ 0 z × (length c ≡ 96)) (converted u u′ d (columnOf t y u 0)) (treeWalk t t′ y (x .plan) (replicate 96 0))
 tree-goes t t′ y x buffers u u′ d l e low k w g q s r =
@@ -63,8 +63,8 @@ when-stopped g (over k o e p) h = e ∙ stop-is h
 -- all that is known of a column, its target and the plan
 pub record Given (t t′ : Tree) (y : Tables) (x : Lent) (buffers : List ℕ) (u u′ : Ty) (d : Widths u u′) : Type 0 where
   pub laid : Laid t t′ (x .plan) d 0
-  pub all-nodes : t .count ≡ t .end 0
-  pub low : t .end 0 ≤ 32
+  pub all-nodes : t .count ≡ subtreeEnd t 0
+  pub low : subtreeEnd t 0 ≤ 32
   pub depth : ℕ
   pub worded : Worded (x .plan) depth u′ 0
   pub formed : Formed u′

@@ -6,12 +6,13 @@ use Prim.Native.Nat.{ℕ, zero, suc, _+_, _-_, _*_}
 use lib.ListN.{length, take, drop, getD, set, replicate}
 use lib.Dec.{ltb}
 use Rattle.columnar.specs.Row.{seg}
-use Rattle.columnar.specs.Types.{Number, i8, width, half, limit}
+use Rattle.columnar.specs.Types.{Number, int, w1, width, half, limit}
 use Rattle.columnar.specs.Array.{item, ok}
 use Rattle.columnar.specs.Entries.{encodes}
 use Rattle.columnar.specs.RunEnd.{RunEnd}
 use Rattle.array_data.specs.Tables.{Tables, lengthOf, offsetOf, validOf, firstBuffer, secondBuffer, arrayWith}
-use Rattle.array_data.specs.Typed.{NodeKind, fixedNode, stringNode, viewNode, listViewNode, listNode, sparseNode, denseNode, runEndNode, dictionaryNode, Tree, childNode}
+use Rattle.array_data.specs.NodeKinds.{NodeKind, fixedNode, stringNode, viewNode, listViewNode, listNode, sparseNode, denseNode, runEndNode, dictionaryNode}
+use Rattle.array_data.specs.Typed.{Tree, childNode, kindIn}
 use Rattle.walk.specs.State.{addRows, setBytes}
 use Rattle.walk.specs.Log.{Out, put, done, wrote, need, next}
 use Rattle.anew.specs.widths.Converted.{spanOf, offsetsOf, firstOf, manyOf, endsOf}
@@ -41,14 +42,14 @@ widthIn (runEndNode w) = w
 widthIn (dictionaryNode m) = 0
 
 abbrev pub keyIn : NodeKind → Number
-keyIn (fixedNode m) = i8
-keyIn (stringNode w) = i8
-keyIn viewNode = i8
-keyIn (listViewNode w) = i8
-keyIn (listNode w) = i8
-keyIn (sparseNode ids) = i8
-keyIn (denseNode ids) = i8
-keyIn (runEndNode w) = i8
+keyIn (fixedNode m) = (int w1)
+keyIn (stringNode w) = (int w1)
+keyIn viewNode = (int w1)
+keyIn (listViewNode w) = (int w1)
+keyIn (listNode w) = (int w1)
+keyIn (sparseNode ids) = (int w1)
+keyIn (denseNode ids) = (int w1)
+keyIn (runEndNode w) = (int w1)
 keyIn (dictionaryNode m) = m
 
 abbrev pub isRun : NodeKind → Bool
@@ -65,7 +66,7 @@ isRun (dictionaryNode m) = false
 -- node i of a tree is run ends
 abbrev pub endsIn : Tree → ℕ → Bool
 endsIn t zero = false
-endsIn t (suc i) = isRun (t .kind i)
+endsIn t (suc i) = isRun (kindIn t i)
 
 -- for each node of a result one more than the number of the column's node that it comes from; 0 for run ends, which keep no nulls
 unfoldable pub comesFrom : Tree → List ℕ
@@ -100,7 +101,7 @@ module _ (t t′ : Tree) (x : Tables) (plan : List ℕ) where
   settleAs (dictionaryNode m) i s n rs = range (suc i) 0 (lengthOf x (suc i)) rs
 
   unfoldable pub settle : ℕ → List ℕ → List ℕ
-  settle i rs = settleAs (t .kind i) i (offsetOf x i + fromIn rs i) (manyIn rs i) rs
+  settle i rs = settleAs (kindIn t i) i (offsetOf x i + fromIn rs i) (manyIn rs i) rs
 
   -- ---- what node i writes
 
@@ -133,7 +134,7 @@ module _ (t t′ : Tree) (x : Tables) (plan : List ℕ) where
   unfoldable pub ownWalk : ℕ → ℕ → ℕ → List ℕ → Out
   ownWalk i a n c =
       next (bitsWalk plan i (ok (validOf x i)) (offsetOf x i + a) n c)
-      (λ c1. ownAs (t .kind i) (t′ .kind i) i (ok (validOf x i)) (offsetOf x i + a) n (addRows i n c1))
+      (λ c1. ownAs (kindIn t i) (kindIn t′ i) i (ok (validOf x i)) (offsetOf x i + a) n (addRows i n c1))
 
   unfoldable pub turn : ℕ → List ℕ → List ℕ → Out
   turn i rs c = cond (afterRun i) (done c) (ownWalk i (fromIn rs i) (manyIn rs i) c)

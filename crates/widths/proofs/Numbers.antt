@@ -4,7 +4,7 @@ use mathlib.Core.Path.{_≡_, refl, sym, ap, ap₂, _∙_}
 use mathlib.Core.List.{List, [], _∷_, _++_, List·Memᴰ, List·Memᴰ·head, List·Memᴰ·tail}
 use Prim.Native.Nat.{ℕ, zero, suc, _+_, _-_}
 use Rattle.columnar.specs.Row.{seg}
-use Rattle.columnar.specs.Types.{Number, i8, half, limit, Plain, fixed, string, Ty, tPlain, tView, tListView, tList, tSparse, tDense, tRunEnd, tDictionary}
+use Rattle.columnar.specs.Types.{Number, int, w1, half, limit, Plain, fixed, string, Ty, tPlain, tView, tListView, tList, tSparse, tDense, tRunEnd, tDictionary}
 use Rattle.columnar.specs.Array.{Array, item}
 use Rattle.columnar.specs.Plain.{PlainBody}
 use Rattle.columnar.specs.RunEnd.{RunEnd}
@@ -52,23 +52,23 @@ field (tRunEnd w t) c = tView
 field (tDictionary k p) c = tView
 
 abbrev keyOf : Ty → Number
-keyOf (tPlain p) = i8
-keyOf tView = i8
-keyOf (tListView w t) = i8
-keyOf (tList w t) = i8
-keyOf (tSparse ids nullable f) = i8
-keyOf (tDense ids nullable f) = i8
-keyOf (tRunEnd w t) = i8
+keyOf (tPlain p) = (int w1)
+keyOf tView = (int w1)
+keyOf (tListView w t) = (int w1)
+keyOf (tList w t) = (int w1)
+keyOf (tSparse ids nullable f) = (int w1)
+keyOf (tDense ids nullable f) = (int w1)
+keyOf (tRunEnd w t) = (int w1)
 keyOf (tDictionary k p) = k
 
 abbrev plainOf : Ty → Plain
 plainOf (tPlain p) = p
-plainOf tView = fixed i8
-plainOf (tListView w t) = fixed i8
-plainOf (tList w t) = fixed i8
-plainOf (tSparse ids nullable f) = fixed i8
-plainOf (tDense ids nullable f) = fixed i8
-plainOf (tRunEnd w t) = fixed i8
+plainOf tView = fixed (int w1)
+plainOf (tListView w t) = fixed (int w1)
+plainOf (tList w t) = fixed (int w1)
+plainOf (tSparse ids nullable f) = fixed (int w1)
+plainOf (tDense ids nullable f) = fixed (int w1)
+plainOf (tRunEnd w t) = fixed (int w1)
 plainOf (tDictionary k p) = p
 
 abbrev textOf : Plain → ℕ

@@ -12,7 +12,7 @@ use lib.Dec.{leb, ltb, eqb}
 use borrow.Author.Tests.{lt-ltb, le-ltb, ltb-true, ltb-false}
 use Rattle.number.specs.Number.{number, signed}
 use Rattle.columnar.specs.Row.{Row, null, whole}
-use Rattle.columnar.specs.Types.{Number, i8, u8, i16, u16, i32, u32, i64, u64, f32, f64, width, limit, fixed, tPlain}
+use Rattle.columnar.specs.Types.{Number, int, uint, w1, w2, w4, w8, f32, f64, width, limit, fixed, tPlain}
 use Rattle.columnar.specs.Wider.{integer}
 use Rattle.columnar.specs.Array.{item, bit, ok, sight, Mask}
 use Rattle.columnar.specs.Plain.{value}
@@ -45,14 +45,14 @@ pattern-plain m t p l = rw (le-ltb t p l)
 
 pattern-cell : (k : Number) (p : ℕ) → integer k ≡ true → p < 256 ^ width k → cellOf (256 ^ width k) (value k p) ≡ patternCell (limit k - 1) p
 unfolding cellOf
-pattern-cell i8 p h l = pattern-signed (256 ^ 1) (256 ^ 1 / 2) p (omega arith) (omega arith) l
-pattern-cell u8 p h l = pattern-plain (256 ^ 1) (256 ^ 1 - 1) p (omega arith)
-pattern-cell i16 p h l = pattern-signed (256 ^ 2) (256 ^ 2 / 2) p (omega arith) (omega arith) l
-pattern-cell u16 p h l = pattern-plain (256 ^ 2) (256 ^ 2 - 1) p (omega arith)
-pattern-cell i32 p h l = pattern-signed (256 ^ 4) (256 ^ 4 / 2) p (omega arith) (omega arith) l
-pattern-cell u32 p h l = pattern-plain (256 ^ 4) (256 ^ 4 - 1) p (omega arith)
-pattern-cell i64 p h l = pattern-signed (256 ^ 8) (256 ^ 8 / 2) p (omega arith) (omega arith) l
-pattern-cell u64 p h l = pattern-plain (256 ^ 8) (256 ^ 8 - 1) p (omega arith)
+pattern-cell (int w1) p h l = pattern-signed (256 ^ 1) (256 ^ 1 / 2) p (omega arith) (omega arith) l
+pattern-cell (uint w1) p h l = pattern-plain (256 ^ 1) (256 ^ 1 - 1) p (omega arith)
+pattern-cell (int w2) p h l = pattern-signed (256 ^ 2) (256 ^ 2 / 2) p (omega arith) (omega arith) l
+pattern-cell (uint w2) p h l = pattern-plain (256 ^ 2) (256 ^ 2 - 1) p (omega arith)
+pattern-cell (int w4) p h l = pattern-signed (256 ^ 4) (256 ^ 4 / 2) p (omega arith) (omega arith) l
+pattern-cell (uint w4) p h l = pattern-plain (256 ^ 4) (256 ^ 4 - 1) p (omega arith)
+pattern-cell (int w8) p h l = pattern-signed (256 ^ 8) (256 ^ 8 / 2) p (omega arith) (omega arith) l
+pattern-cell (uint w8) p h l = pattern-plain (256 ^ 8) (256 ^ 8 - 1) p (omega arith)
 pattern-cell f32 p h l = absurd (false≢true h)
 pattern-cell f64 p h l = absurd (false≢true h)
 

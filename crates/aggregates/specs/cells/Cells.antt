@@ -9,9 +9,8 @@ use lib.Dec.{ltb, eqb}
 use Rattle.number.specs.Number.{number}
 use Rattle.columnar.specs.Types.{Number, limit}
 use Rattle.schema.specs.formats.Code.{widthOf}
-use Rattle.schema.specs.formats.Types.{numberOf}
+use Rattle.schema.specs.formats.Types.{numberOf, numberOr}
 use Rattle.array_data.specs.Tables.{Tables, place}
-use Rattle.array_data.specs.type_tree.Lent.{numberOr}
 use Rattle.aggregates.specs.patterns.Parts.{Sized}
 use Rattle.aggregates.specs.declared.tally.Cell.{Cell}
 use Rattle.aggregates.specs.tally.Cells.{cell}

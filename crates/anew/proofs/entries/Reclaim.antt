@@ -9,7 +9,7 @@ use native.Mathlib.Omega.{arith}
 use lib.ListN.{length, getD}
 use lib.Dec.{T, ltb}
 use Rattle.columnar.specs.Row.{seg}
-use Rattle.columnar.specs.Types.{Number, i8, u8, i16, u16, i32, u32, i64, u64, f32, f64, width, limit, Plain, tDictionary}
+use Rattle.columnar.specs.Types.{Number, int, uint, w1, w2, w4, w8, f32, f64, width, limit, Plain, tDictionary}
 use Rattle.columnar.specs.Formed.{FormedPlain}
 use Rattle.columnar.specs.Array.{Array, ok, sight, readWith, nullCount}
 use Rattle.columnar.specs.Plain.{PlainBody}
@@ -32,14 +32,14 @@ use Rattle.anew.proofs.entries.Chosen.{long-source, those-hold, chosen-
 
 -- a key that fits its format is a number of its bytes
 limit-fits : (k : Number) → limit k ≤ 256 ^ width k
-limit-fits i8 = omega arith
-limit-fits u8 = omega arith
-limit-fits i16 = omega arith
-limit-fits u16 = omega arith
-limit-fits i32 = omega arith
-limit-fits u32 = omega arith
-limit-fits i64 = omega arith
-limit-fits u64 = omega arith
+limit-fits (int w1) = omega arith
+limit-fits (uint w1) = omega arith
+limit-fits (int w2) = omega arith
+limit-fits (uint w2) = omega arith
+limit-fits (int w4) = omega arith
+limit-fits (uint w4) = omega arith
+limit-fits (int w8) = omega arith
+limit-fits (uint w8) = omega arith
 limit-fits f32 = omega arith
 limit-fits f64 = omega arith
 

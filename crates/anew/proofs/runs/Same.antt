@@ -9,7 +9,7 @@ use mir.Val.{sel}
 use borrow.Author.Tests.{eqb-true}
 use Rattle.number.specs.Number.{signed, pattern}
 use Rattle.columnar.specs.Row.{Row, null, whole, single, double, bytes, list, union}
-use Rattle.columnar.specs.Types.{Number, i8, u8, i16, u16, i32, u32, i64, u64, f32, f64, width, fixed, tPlain}
+use Rattle.columnar.specs.Types.{Number, int, uint, w1, w2, w4, w8, f32, f64, width, fixed, tPlain}
 use Rattle.columnar.specs.Array.{sight}
 use Rattle.columnar.specs.Plain.{value}
 use Rattle.columnar.specs.Reading.{Column, read}
@@ -73,38 +73,38 @@ back w p h = go (ltb p (256 ^ w / 2)) refl
     go false e = omega arith
 
 abbrev rowBits : Number → Row → ℕ
-rowBits i8 = wholeBits 1
-rowBits u8 = wholeBits 1
-rowBits i16 = wholeBits 2
-rowBits u16 = wholeBits 2
-rowBits i32 = wholeBits 4
-rowBits u32 = wholeBits 4
-rowBits i64 = wholeBits 8
-rowBits u64 = wholeBits 8
+rowBits (int w1) = wholeBits 1
+rowBits (uint w1) = wholeBits 1
+rowBits (int w2) = wholeBits 2
+rowBits (uint w2) = wholeBits 2
+rowBits (int w4) = wholeBits 4
+rowBits (uint w4) = wholeBits 4
+rowBits (int w8) = wholeBits 8
+rowBits (uint w8) = wholeBits 8
 rowBits f32 = floatBits
 rowBits f64 = floatBits
 
 row-bits : (k : Number) (p : ℕ) → p < 256 ^ width k → rowBits k (value k p) ≡ p
-row-bits i8 p h = back 1 p h
-row-bits u8 p h = refl
-row-bits i16 p h = back 2 p h
-row-bits u16 p h = refl
-row-bits i32 p h = back 4 p h
-row-bits u32 p h = refl
-row-bits i64 p h = back 8 p h
-row-bits u64 p h = refl
+row-bits (int w1) p h = back 1 p h
+row-bits (uint w1) p h = refl
+row-bits (int w2) p h = back 2 p h
+row-bits (uint w2) p h = refl
+row-bits (int w4) p h = back 4 p h
+row-bits (uint w4) p h = refl
+row-bits (int w8) p h = back 8 p h
+row-bits (uint w8) p h = refl
 row-bits f32 p h = refl
 row-bits f64 p h = refl
 
 no-null : (k : Number) (p : ℕ) → isNull (value k p) ≡ false
-no-null i8 p = refl
-no-null u8 p = refl
-no-null i16 p = refl
-no-null u16 p = refl
-no-null i32 p = refl
-no-null u32 p = refl
-no-null i64 p = refl
-no-null u64 p = refl
+no-null (int w1) p = refl
+no-null (uint w1) p = refl
+no-null (int w2) p = refl
+no-null (uint w2) p = refl
+no-null (int w4) p = refl
+no-null (uint w4) p = refl
+no-null (int w8) p = refl
+no-null (uint w8) p = refl
 no-null f32 p = refl
 no-null f64 p = refl
 

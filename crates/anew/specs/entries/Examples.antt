@@ -3,7 +3,7 @@ use mathlib.Core.Option.{Option, none, some}
 use mathlib.Core.List.{List, [], _∷_}
 use Prim.Native.Nat.{ℕ}
 use Rattle.columnar.specs.Row.{seg}
-use Rattle.columnar.specs.Types.{Number, i8, u8, u16, Plain, fixed, string, tDictionary}
+use Rattle.columnar.specs.Types.{Number, int, uint, w1, w2, Plain, fixed, string, tDictionary}
 use Rattle.columnar.specs.Array.{Array}
 use Rattle.columnar.specs.Plain.{Text, PlainBody}
 use Rattle.columnar.specs.Reading.{Column}
@@ -27,42 +27,42 @@ abbrev pub drivers : Array Text
 drivers = array 5 1 (some (0b00011110 ∷ [])) (text (0 ∷ 1 ∷ 2 ∷ 4 ∷ 5 ∷ 7 ∷ 8 ∷ []) (9 ∷ 97 ∷ 98 ∷ 98 ∷ 99 ∷ 100 ∷ 100 ∷ 120 ∷ []))
 
 -- five rows, sliced from slot 2 on: "c", "a", null over any key, "c", the null entry. The slots before and behind name other entries.
-abbrev pub sliced : Column (tDictionary u8 (string 4))
-sliced = keyed u8 (string 4) 5 2 (some (0b11101111 ∷ [])) (1 ∷ 3 ∷ 2 ∷ 0 ∷ 255 ∷ 2 ∷ 4 ∷ 1 ∷ []) drivers
+abbrev pub sliced : Column (tDictionary (uint w1) (string 4))
+sliced = keyed (uint w1) (string 4) 5 2 (some (0b11101111 ∷ [])) (1 ∷ 3 ∷ 2 ∷ 0 ∷ 255 ∷ 2 ∷ 4 ∷ 1 ∷ []) drivers
 
 -- three rows, all null: no entry, and one offset
-abbrev pub no-driver : Column (tDictionary u8 (string 4))
-no-driver = keyed u8 (string 4) 3 2 (some (0b00000011 ∷ [])) (1 ∷ 3 ∷ 2 ∷ 0 ∷ 255 ∷ []) drivers
+abbrev pub no-driver : Column (tDictionary (uint w1) (string 4))
+no-driver = keyed (uint w1) (string 4) 3 2 (some (0b00000011 ∷ [])) (1 ∷ 3 ∷ 2 ∷ 0 ∷ 255 ∷ []) drivers
 
 -- signed keys with -1 under a null; the null entry is not in use
-abbrev pub routes : Column (tDictionary i8 (fixed u16))
-routes = keyed i8 (fixed u16) 4 0 (some (0b00001011 ∷ [])) (2 ∷ 0 ∷ 255 ∷ 2 ∷ []) (array 3 0 (some (0b00000101 ∷ [])) (pack 2 (7 ∷ 8 ∷ 9 ∷ [])))
+abbrev pub routes : Column (tDictionary (int w1) (fixed (uint w2)))
+routes = keyed (int w1) (fixed (uint w2)) 4 0 (some (0b00001011 ∷ [])) (2 ∷ 0 ∷ 255 ∷ 2 ∷ []) (array 3 0 (some (0b00000101 ∷ [])) (pack 2 (7 ∷ 8 ∷ 9 ∷ [])))
 
 -- more entries than a key of one byte can name
-abbrev pub crowd : Column (tDictionary u8 (fixed u16))
-crowd = keyed u8 (fixed u16) 2 0 none (255 ∷ 3 ∷ []) (array 300 0 none (pack 2 (seg (λ i. i) 0 300)))
+abbrev pub crowd : Column (tDictionary (uint w1) (fixed (uint w2)))
+crowd = keyed (uint w1) (fixed (uint w2)) 2 0 none (255 ∷ 3 ∷ []) (array 300 0 none (pack 2 (seg (λ i. i) 0 300)))
 
 abbrev pub reclaimings : List Reclaiming
 reclaimings =
     record {
-      key = u8;
+      key = (uint w1);
       plain = string 4;
       column = sliced;
       result =
-          keyed u8 (string 4) 5 0 (some (0b00011011 ∷ [])) (1 ∷ 0 ∷ 0 ∷ 1 ∷ 2 ∷ [])
+          keyed (uint w1) (string 4) 5 0 (some (0b00011011 ∷ [])) (1 ∷ 0 ∷ 0 ∷ 1 ∷ 2 ∷ [])
           (array 3 0 (some (0b00000011 ∷ [])) (text (0 ∷ 1 ∷ 2 ∷ 3 ∷ []) (97 ∷ 99 ∷ 120 ∷ [])));
     }
     ∷ record {
-      key = u8;
+      key = (uint w1);
       plain = string 4;
       column = no-driver;
-      result = keyed u8 (string 4) 3 0 (some (0 ∷ [])) (0 ∷ 0 ∷ 0 ∷ []) (array 0 0 none (text (0 ∷ []) []));
+      result = keyed (uint w1) (string 4) 3 0 (some (0 ∷ [])) (0 ∷ 0 ∷ 0 ∷ []) (array 0 0 none (text (0 ∷ []) []));
     }
     ∷ record {
-      key = i8;
-      plain = fixed u16;
+      key = (int w1);
+      plain = fixed (uint w2);
       column = routes;
-      result = keyed i8 (fixed u16) 4 0 (some (0b00001011 ∷ [])) (1 ∷ 0 ∷ 0 ∷ 1 ∷ []) (array 2 0 none (pack 2 (7 ∷ 9 ∷ [])));
+      result = keyed (int w1) (fixed (uint w2)) 4 0 (some (0b00001011 ∷ [])) (1 ∷ 0 ∷ 0 ∷ 1 ∷ []) (array 2 0 none (pack 2 (7 ∷ 9 ∷ [])));
     }
-    ∷ record { key = u8; plain = fixed u16; column = crowd; result = keyed u8 (fixed u16) 2 0 none (1 ∷ 0 ∷ []) (array 2 0 none (pack 2 (3 ∷ 255 ∷ []))) }
+    ∷ record { key = (uint w1); plain = fixed (uint w2); column = crowd; result = keyed (uint w1) (fixed (uint w2)) 2 0 none (1 ∷ 0 ∷ []) (array 2 0 none (pack 2 (3 ∷ 255 ∷ []))) }
     ∷ []

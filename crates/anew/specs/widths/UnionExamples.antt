@@ -4,7 +4,7 @@ use mathlib.Core.Bool.{Bool, true}
 use mathlib.Core.Option.{none, some}
 use mathlib.Core.List.{List, [], _∷_, _++_}
 use Prim.Native.Nat.{ℕ, zero, suc}
-use Rattle.columnar.specs.Types.{i32, f32, fixed, string, Ty, tPlain, tSparse, tDense}
+use Rattle.columnar.specs.Types.{int, w4, f32, fixed, string, Ty, tPlain, tSparse, tDense}
 use Rattle.columnar.specs.Wider.{Declared}
 use Rattle.columnar.specs.Reading.{Column}
 use Rattle.columnar.specs.Examples.{array, pack, joe, mark, i-f-or-s, sparse-children, sparse-slice}
@@ -20,12 +20,12 @@ flags c = true
 
 -- numbers, floats, and byte strings with wide offsets
 abbrev pub i-f-or-wide : ℕ → Ty
-i-f-or-wide zero = tPlain (fixed i32)
+i-f-or-wide zero = tPlain (fixed (int w4))
 i-f-or-wide (suc zero) = tPlain (fixed f32)
 i-f-or-wide (suc (suc c)) = tPlain (string 8)
 
 abbrev pub field-widths : (c : ℕ) → Declared three c → Widths (i-f-or-s c) (i-f-or-wide c)
-field-widths zero m = sPlain (fixed i32) (fixed i32) (sFixed i32)
+field-widths zero m = sPlain (fixed (int w4)) (fixed (int w4)) (sFixed (int w4))
 field-widths (suc zero) m = sPlain (fixed f32) (fixed f32) (sFixed f32)
 field-widths (suc (suc c)) m = sPlain (string 4) (string 8) (sString 4 8)
 

@@ -12,8 +12,10 @@ use Rattle.schema.proofs.Trees.{child-inside, children-end}
 use Rattle.schema.proofs.Depth.{child-depth}
 use Rattle.schema.proofs.Known.{typed-whole, typed-shape, within-depth}
 use Rattle.array_data.specs.Tables.{Tables}
-use Rattle.array_data.specs.Typed.{NodeKind, runEndNode, childNode, fieldOf, nodeOf, allOf, nodes}
-use Rattle.array_data.specs.type_tree.Lent.{tyAs, tyOf}
+use Rattle.array_data.proofs.type_tree.ByKind.{tyAs, type-by}
+use Rattle.array_data.specs.NodeKinds.{NodeKind, runEndNode, kindAt}
+use Rattle.array_data.specs.Typed.{childNode, fieldOf, nodeOf, allOf, nodes}
+use Rattle.array_data.specs.type_tree.Lent.{tyOf}
 use Rattle.array_data.proofs.type_tree.Ids.{field-id}
 use Rattle.array_data.proofs.type_tree.Shaped.{Shaped, of-plain, of-view, of-list, of-lists, of-sparse, of-dense, of-run, of-dictionary, shaped}
 use Rattle.array_data.proofs.type_tree.Lent.{tree, child-same, after-leaf, first-child, second-child, some-node, whole-end, root}
@@ -90,8 +92,7 @@ module _ (formats schema : List ℕ) (first n : ℕ) where
           List·Memᴰ·tail
           (List·Memᴰ·tail (subst (λ k. In f k j) (ap (childAt schema first n i) one ∙ second-child formats schema first n i (next-in i l (omega arith)) z1) m))
 
-      covered-by : (f i j : ℕ) → i < n → Shaped formats schema first i → Below i (below schema first i) j → Kids f i j → In (suc f) i j
-      unfolding tyOf
+      covered-by : (f i j : ℕ) → i < n → Shaped formats schema first i → Below i (below schema first i) j → Kids f i j → InKind f i j (kindAt formats schema first i)
       covered-by f i j l (of-plain p e z d) r kid = let h = r .one-of in absurd (omega arith)
       covered-by f i j l (of-view e z) r kid = let h = r .one-of in absurd (omega arith)
       covered-by f i j l (of-list v e z d) r kid =
@@ -137,7 +138,8 @@ module _ (formats schema : List ℕ) (first n : ℕ) where
           go false e kid =
               let d = eqb-false j i e in
               let last = children-end schema first n i l in
-              covered-by (typed-whole formats schema first n t) f i j l (shaped formats schema first i (typed-shape formats schema first n t i l)) (locate i j (below schema first i) (omega arith) (omega arith)) kid
+              subst (λ u. List·Memᴰ j (nodes (tree formats schema first n) x u i)) (sym (type-by (tree formats schema first n) f i))
+              (covered-by (typed-whole formats schema first n t) f i j l (shaped formats schema first i (typed-shape formats schema first n t i l)) (locate i j (below schema first i) (omega arith) (omega arith)) kid)
 
       -- EACH NODE IS ONE OF THE TYPE'S
       pub covered : (j : ℕ) → j < n → List·Memᴰ j (nodes (tree formats schema first n) x (tyOf (tree formats schema first n) 8 0) 0)

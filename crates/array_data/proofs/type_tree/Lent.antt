@@ -8,12 +8,15 @@ use lib.Dec.{leb, eqb}
 use borrow.Author.Tests.{leb-true, eqb-true}
 use Rattle.columnar.specs.Types.{Plain, fixed, string}
 use Rattle.columnar.specs.Formed.{Formed, FormedPlain}
-use Rattle.schema.specs.Tree.{below, dueFrom, endOf, childAt, depth, whole, ceilings, typed}
+use Rattle.schema.specs.Tree.{below, endOf, childAt, depth, whole, ceilings, typed}
+use Rattle.schema.proofs.Due.{dueFrom, whole-is}
 use Rattle.schema.proofs.Trees.{child-inside, children-end}
 use Rattle.schema.proofs.Depth.{child-depth}
 use Rattle.schema.proofs.Known.{typed-whole, typed-shape, within-depth}
+use Rattle.array_data.proofs.type_tree.ByKind.{plainAs, tyAs, type-by}
+use Rattle.array_data.specs.NodeKinds.{kindAt}
 use Rattle.array_data.specs.Typed.{Tree, childNode, fieldOf, MeansPlain, Means}
-use Rattle.array_data.specs.type_tree.Lent.{kindAt, treeOf, plainAs, tyAs, tyOf, typeOf}
+use Rattle.array_data.specs.type_tree.Lent.{treeOf, tyOf, typeOf}
 use Rattle.array_data.proofs.type_tree.Ids.{both, field-in}
 use Rattle.array_data.proofs.type_tree.Shaped.{plainKind, Shaped, of-plain, of-view, of-list, of-lists, of-sparse, of-dense, of-run, of-dictionary, shaped}
 use Rattle.schema.proofs.Counts.{count}
@@ -54,8 +57,7 @@ module _ (formats schema : List ℕ) (first n : ℕ) where
   MeansFrom f i = Means tree (tyOf tree f i) i
 
   means-by : (f i : ℕ) → whole schema first n ≡ true → i < n → Shaped formats schema first i
-      → ((j : ℕ) → j < below schema first i → MeansFrom f (childAt schema first n i j)) → MeansFrom (suc f) i
-  unfolding tyOf
+      → ((j : ℕ) → j < below schema first i → MeansFrom f (childAt schema first n i j)) → Means tree (tyAs tree (tyOf tree f) (kindAt formats schema first i) i) i
   means-by f i w l (of-plain (fixed m) e z d) kid = subst (λ k. Means tree (tyAs tree (tyOf tree f) k i) i) (sym e) (l, e)
   means-by f i w l (of-plain (string v) e z d) kid = subst (λ k. Means tree (tyAs tree (tyOf tree f) k i) i) (sym e) (l, e)
   means-by f i w l (of-view e z) kid = subst (λ k. Means tree (tyAs tree (tyOf tree f) k i) i) (sym e) (l, e)
@@ -79,8 +81,7 @@ module _ (formats schema : List ℕ) (first n : ℕ) where
       ((l, e), subst (λ q. MeansPlain tree q (suc i)) (sym (ap plainAs e1 ∙ plain-as p)) (plain-means p (suc i) next e1))
 
   formed-by : (f i : ℕ) → whole schema first n ≡ true → i < n → Shaped formats schema first i
-      → ((j : ℕ) → j < below schema first i → Formed (tyOf tree f (childAt schema first n i j))) → Formed (tyOf tree (suc f) i)
-  unfolding tyOf
+      → ((j : ℕ) → j < below schema first i → Formed (tyOf tree f (childAt schema first n i j))) → Formed (tyAs tree (tyOf tree f) (kindAt formats schema first i) i)
   formed-by f i w l (of-plain (fixed m) e z d) kid = subst (λ k. Formed (tyAs tree (tyOf tree f) k i)) (sym e) d
   formed-by f i w l (of-plain (string v) e z d) kid = subst (λ k. Formed (tyAs tree (tyOf tree f) k i)) (sym e) d
   formed-by f i w l (of-view e z) kid = subst (λ k. Formed (tyAs tree (tyOf tree f) k i)) (sym e) tt
@@ -101,14 +102,12 @@ module _ (formats schema : List ℕ) (first n : ℕ) where
       subst (λ k. Formed (tyAs tree (tyOf tree f) k i)) (sym e) (g, subst FormedPlain (sym (ap plainAs e1 ∙ plain-as p)) d)
 
   pub some-node : whole schema first n ≡ true → 0 < n
-  unfolding whole
   some-node w =
-      let p = both (leb 1 n && eqb (dueFrom schema first n 1 0) 0) (eqb (endOf schema first n 0) n) w in
+      let p = both (leb 1 n && eqb (dueFrom schema first n 1 0) 0) (eqb (endOf schema first n 0) n) (sym (whole-is schema first n) ∙ w) in
       leb-true 1 n (both (leb 1 n) (eqb (dueFrom schema first n 1 0) 0) (p .0) .0)
 
   pub whole-end : whole schema first n ≡ true → endOf schema first n 0 ≡ n
-  unfolding whole
-  whole-end w = eqb-true (endOf schema first n 0) n (both (leb 1 n && eqb (dueFrom schema first n 1 0) 0) (eqb (endOf schema first n 0) n) w .1)
+  whole-end w = eqb-true (endOf schema first n 0) n (both (leb 1 n && eqb (dueFrom schema first n 1 0) 0) (eqb (endOf schema first n 0) n) (sym (whole-is schema first n) ∙ w) .1)
 
   pub root : 9 ≤ depth schema first n 0 + 8
   unfolding depth
@@ -119,8 +118,9 @@ module _ (formats schema : List ℕ) (first n : ℕ) where
     means-at zero i l h = absurd (omega (arith, within-depth formats schema first n c i l))
     means-at (suc f) i l h =
         let w = typed-whole formats schema first n t in
-        means-by f i w l (shaped formats schema first i (typed-shape formats schema first n t i l))
-        (λ j b. means-at f (childAt schema first n i j) (child-inside schema first n w i j l b) (omega (arith, child-depth schema first n w i j l b)))
+        subst (λ u. Means tree u i) (sym (type-by tree f i))
+        (means-by f i w l (shaped formats schema first i (typed-shape formats schema first n t i l))
+        (λ j b. means-at f (childAt schema first n i j) (child-inside schema first n w i j l b) (omega (arith, child-depth schema first n w i j l b))))
 
     -- THE TREE STANDS FOR A TYPE
     pub means : Means tree (typeOf formats schema first n) 0
@@ -130,8 +130,9 @@ module _ (formats schema : List ℕ) (first n : ℕ) where
     formed-at zero i l h = absurd (omega (arith, within-depth formats schema first n c i l))
     formed-at (suc f) i l h =
         let w = typed-whole formats schema first n t in
-        formed-by f i w l (shaped formats schema first i (typed-shape formats schema first n t i l))
-        (λ j b. formed-at f (childAt schema first n i j) (child-inside schema first n w i j l b) (omega (arith, child-depth schema first n w i j l b)))
+        subst Formed (sym (type-by tree f i))
+        (formed-by f i w l (shaped formats schema first i (typed-shape formats schema first n t i l))
+        (λ j b. formed-at f (childAt schema first n i j) (child-inside schema first n w i j l b) (omega (arith, child-depth schema first n w i j l b))))
 
     -- .. THAT 01 ADMITS
     pub formed : Formed (typeOf formats schema first n)

@@ -15,8 +15,10 @@ use Rattle.schema.proofs.Trees.{child-inside, child-is, end-up, end-after, end-
 use Rattle.schema.proofs.Depth.{nested, child-before, child-depth}
 use Rattle.schema.proofs.Known.{typed-whole, typed-shape, within-depth, same-size, same-node}
 use Rattle.array_data.specs.Tables.{Tables}
-use Rattle.array_data.specs.Typed.{NodeKind, fixedNode, stringNode, viewNode, listViewNode, listNode, sparseNode, denseNode, runEndNode, dictionaryNode, Tree, childNode, fieldOf, allOf, MeansPlain, Means, nodes}
-use Rattle.array_data.specs.type_tree.Lent.{kindOf, kindAt, treeOf, plainAs, tyAs, tyOf, typeOf}
+use Rattle.array_data.proofs.type_tree.ByKind.{plainAs, tyAs, type-by}
+use Rattle.array_data.specs.NodeKinds.{NodeKind, fixedNode, stringNode, viewNode, listViewNode, listNode, sparseNode, denseNode, runEndNode, dictionaryNode, kindOf, kindAt}
+use Rattle.array_data.specs.Typed.{Tree, childNode, fieldOf, allOf, MeansPlain, Means, nodes, nullableIn}
+use Rattle.array_data.specs.type_tree.Lent.{treeOf, tyOf, typeOf}
 use Rattle.array_data.proofs.type_tree.Ids.{both, field-in}
 use Rattle.array_data.proofs.type_tree.Shaped.{plainKind, Shaped, of-plain, of-view, of-list, of-lists, of-sparse, of-dense, of-run, of-dictionary, shaped, at-run}
 use Rattle.array_data.proofs.type_tree.Lent.{child-same, first-child, second-child, some-node, root}
@@ -230,18 +232,17 @@ module _ (formats schema : List ℕ) (first first′ n : ℕ) (agree : (i : ℕ)
     next-in i l h = subst (λ k. k < n) (first-child formats schema first n i) (child-inside schema first n w i 0 l h)
 
     field-there : (f i : ℕ) → i < n → eqb (dictionary schema first i) 0 ≡ true → (j : ℕ) → j < below schema first i → MeansThere f (childAt schema first n i j)
-        → (here .nullable (childNode here i j) ≡ there .nullable (childNode there i j)) × Means there (tyOf here f (childNode here i j)) (childNode there i j)
+        → (nullableIn here (childNode here i j) ≡ nullableIn there (childNode there i j)) × Means there (tyOf here f (childNode here i j)) (childNode there i j)
     field-there f i l s j h m =
         let a = child-same formats schema first n i j in
         let b = place-same i j l h ∙ child-same formats schema first′ n i j in (
-          sym (ap (here .nullable) a) ∙ null-same i j l h s ∙ ap (there .nullable) b,
+          sym (ap (nullableIn here) a) ∙ null-same i j l h s ∙ ap (nullableIn there) b,
           subst (λ z. Means there (tyOf here f z) (childNode there i j)) a (subst (λ z. Means there (tyOf here f (childAt schema first n i j)) z) b m),
         )
 
     there-by : (f i : ℕ) → i < n → Shaped formats schema first i → kindAt formats schema first i ≡ kindAt formats schema first′ i
         → (0 < below schema first i → kindAt formats schema first (suc i) ≡ kindAt formats schema first′ (suc i))
-        → ((j : ℕ) → j < below schema first i → MeansThere f (childAt schema first n i j)) → MeansThere (suc f) i
-    unfolding tyOf
+        → ((j : ℕ) → j < below schema first i → MeansThere f (childAt schema first n i j)) → Means there (tyAs here (tyOf here f) (kindAt formats schema first i) i) i
     there-by f i l (of-plain (fixed m) e z d) k k1 kid = subst (λ k. Means there (tyAs here (tyOf here f) k i) i) (sym e) (l, sym k ∙ e)
     there-by f i l (of-plain (string v) e z d) k k1 kid = subst (λ k. Means there (tyAs here (tyOf here f) k i) i) (sym e) (l, sym k ∙ e)
     there-by f i l (of-view e z) k k1 kid = subst (λ k. Means there (tyAs here (tyOf here f) k i) i) (sym e) (l, sym k ∙ e)
@@ -282,8 +283,7 @@ module _ (formats schema : List ℕ) (first first′ n : ℕ) (agree : (i : ℕ)
           subst (λ z. nodes here x (tyOf here f z) z ≡ nodes there x (tyOf here f z) (childNode there i j)) a
           (m ∙ ap (λ z. nodes there x (tyOf here f (childAt schema first n i j)) z) b)
 
-      nodes-by : (f i : ℕ) → i < n → Shaped formats schema first i → ((j : ℕ) → j < below schema first i → SameNodes f (childAt schema first n i j)) → SameNodes (suc f) i
-      unfolding tyOf
+      nodes-by : (f i : ℕ) → i < n → Shaped formats schema first i → ((j : ℕ) → j < below schema first i → SameNodes f (childAt schema first n i j)) → SameOf f i (kindAt formats schema first i)
       nodes-by f i l (of-plain (fixed m) e z d) kid = subst (SameOf f i) (sym e) refl
       nodes-by f i l (of-plain (string v) e z d) kid = subst (SameOf f i) (sym e) refl
       nodes-by f i l (of-view e z) kid = subst (SameOf f i) (sym e) refl
@@ -307,9 +307,10 @@ module _ (formats schema : List ℕ) (first first′ n : ℕ) (agree : (i : ℕ)
     there-at : (w : whole schema first n ≡ true) (f i : ℕ) → i < n → 9 ≤ depth schema first n i + f → MeansThere w f i
     there-at w zero i l h = absurd (omega (arith, within-depth formats schema first n c i l))
     there-at w (suc f) i l h =
-        there-by w f i l (shaped-at i l) (kind-same w i l (shaped-at i l))
+        subst (λ u. Means (there w) u i) (sym (type-by (here w) f i))
+        (there-by w f i l (shaped-at i l) (kind-same w i l (shaped-at i l))
         (λ b. kind-same w (suc i) (next-in w i l b) (shaped-at (suc i) (next-in w i l b)))
-        (λ j b. there-at w f (childAt schema first n i j) (child-inside schema first n w i j l b) (omega (arith, child-depth schema first n w i j l b)))
+        (λ j b. there-at w f (childAt schema first n i j) (child-inside schema first n w i j l b) (omega (arith, child-depth schema first n w i j l b))))
 
     there-root : Means (treeOf formats schema first′ n) (typeOf formats schema first n) 0
     there-root =
@@ -319,8 +320,9 @@ module _ (formats schema : List ℕ) (first first′ n : ℕ) (agree : (i : ℕ)
     nodes-at : (w : whole schema first n ≡ true) (x : Tables) (f i : ℕ) → i < n → 9 ≤ depth schema first n i + f → SameNodes w x f i
     nodes-at w x zero i l h = absurd (omega (arith, within-depth formats schema first n c i l))
     nodes-at w x (suc f) i l h =
-        nodes-by w x f i l (shaped-at i l)
-        (λ j b. nodes-at w x f (childAt schema first n i j) (child-inside schema first n w i j l b) (omega (arith, child-depth schema first n w i j l b)))
+        subst (λ u. nodes (here w) x u i ≡ nodes (there w) x u i) (sym (type-by (here w) f i))
+        (nodes-by w x f i l (shaped-at i l)
+        (λ j b. nodes-at w x f (childAt schema first n i j) (child-inside schema first n w i j l b) (omega (arith, child-depth schema first n w i j l b))))
 
     nodes-root : (x : Tables) → nodes (treeOf formats schema first n) x (typeOf formats schema first n) 0 ≡ nodes (treeOf formats schema first′ n) x (typeOf formats schema first n) 0
     nodes-root x =

@@ -13,11 +13,10 @@ use Rattle.columnar.specs.Types.{Number, width, Plain, fixed, string}
 use Rattle.columnar.specs.Wider.{integer}
 use Rattle.columnar.specs.Formed.{OffsetWidth, four, eight, RunWidth, FormedPlain, Ids}
 use Rattle.schema.specs.formats.Code.{between, isInteger, isFixed, isString, isView, isListView, isList, isUnion, isRunEnd, widthOf}
-use Rattle.schema.specs.formats.Types.{numberOf}
+use Rattle.schema.specs.formats.Types.{numberOf, numberOr}
 use Rattle.schema.proofs.formats.Types.{number-width, fixed-number}
 use Rattle.schema.specs.Tree.{field, children, dictionary, below, bare, childForEach, codeOf, idsOf, valuesShape, endsShape, leafShape, keysShape, listShape, unionShape, runShape, shape}
-use Rattle.array_data.specs.Typed.{NodeKind, fixedNode, stringNode, viewNode, listViewNode, listNode, sparseNode, denseNode, runEndNode, dictionaryNode}
-use Rattle.array_data.specs.type_tree.Lent.{numberOr, kindOf, kindAt}
+use Rattle.array_data.specs.NodeKinds.{NodeKind, fixedNode, stringNode, viewNode, listViewNode, listNode, sparseNode, denseNode, runEndNode, dictionaryNode, kindOf, kindAt}
 use Rattle.array_data.proofs.type_tree.Ids.{cond-yes, cond-no, both, ids-formed}
 use Rattle.array_data.proofs.Names.{idsOr, numberKind, unionKind}
 

@@ -8,11 +8,14 @@ use lib.Dec.{leb, ltb, eqb}
 use borrow.Author.Tests.{eqb-true, eqb-false, ltb-true, ltb-false, leb-true, leb-false, eq-eqb, ne-eqb, lt-ltb, le-ltb, le-leb, lt-leb}
 use Rattle.columnar.specs.Types.{fixed, tPlain}
 use Rattle.schema.specs.formats.Code.{isFixed}
-use Rattle.schema.specs.formats.Types.{numberOf}
-use Rattle.schema.specs.Tree.{shape, dictionary, below, dueFrom, endOf, whole, codeOf, typed}
+use Rattle.schema.specs.formats.Types.{numberOf, numberOr}
+use Rattle.schema.proofs.Due.{dueFrom, whole-is}
+use Rattle.schema.specs.Tree.{shape, dictionary, below, endOf, whole, codeOf, typed}
 use Rattle.array_data.specs.Tables.{Tables, lengthOf}
-use Rattle.array_data.specs.type_tree.Lent.{numberOr, kindAt, tyOf, typeOf}
+use Rattle.array_data.specs.NodeKinds.{kindAt}
+use Rattle.array_data.specs.type_tree.Lent.{treeOf, typeOf}
 use Rattle.array_data.proofs.lent_tables.Laws.{and-left, and-right}
+use Rattle.array_data.proofs.type_tree.ByKind.{type-by}
 use Rattle.columns.specs.Grounds.{smallBody, withinCeilings, obeys, columnGround}
 use Rattle.columns.specs.column_pair.Pair.{pairGround, plainCode, rangeIn}
 use Rattle.columnar.specs.Test.{every}
@@ -76,9 +79,9 @@ module _ (formats schema : List ℕ) (first n : ℕ) where
       go false d h = absurd (omega (arith, h))
 
 nothing-below : (schema : List ℕ) (first : ℕ) → whole schema first 1 ≡ true → below schema first 0 ≡ 0
-unfolding whole dueFrom
+unfolding dueFrom
 nothing-below schema first h =
-    let e = eqb-true (0 + below schema first 0) 0 (and-left (eqb (0 + below schema first 0) 0) (eqb (endOf schema first 1 0) 1) h) in
+    let e = eqb-true (0 + below schema first 0) 0 (and-left (eqb (0 + below schema first 0) 0) (eqb (endOf schema first 1 0) 1) (sym (whole-is schema first 1) ∙ h)) in
     omega (arith, e)
 
 no-dictionary : (schema : List ℕ) (first : ℕ) → below schema first 0 ≡ 0 → eqb (dictionary schema first 0) 0 ≡ true
@@ -96,13 +99,13 @@ typed-whole formats schema first n h = and-left (whole schema first n) (every (s
 -- ITS TYPE is that of its code
 pub plain-type : (formats schema : List ℕ) (first n : ℕ) → typed formats schema first n ≡ true
     → (c : ℕ) → plainCode formats schema first n ≡ c → isFixed c ≡ true → typeOf formats schema first n ≡ tPlain (fixed (numberOr (numberOf c)))
-unfolding tyOf kindAt
+unfolding kindAt
 plain-type formats schema first n t c e f =
     let l : 1 ≤ c = leb-true 1 c (and-left (leb 1 c) (leb c 10) f) in
     let o = plain-one formats schema first n c e (omega arith) in
     let w : whole schema first 1 ≡ true = subst (λ k. whole schema first k ≡ true) (o .0) (typed-whole formats schema first n t) in
     let d = no-dictionary schema first (nothing-below schema first w) in
-    rw (o .1, f, d)
+    type-by (treeOf formats schema first n) 7 0 ∙ rw (o .1, f, d)
 
 -- ---- a range of rows
 

@@ -13,7 +13,7 @@ use Rattle.columnar.specs.Row.{seg}
 use Rattle.columnar.specs.Array.{nullCount}
 use Rattle.model.proofs.Bits.{length-seg, getD-seg}
 use Rattle.model.proofs.Rows.{seg-append}
-use Rattle.schema.specs.Tree.{typed, whole}
+use Rattle.schema.specs.Tree.{typed, endFrom, whole}
 use Rattle.array_data.specs.Tables.{Tables, lengthOf, offsetOf, place}
 use Rattle.array_data.specs.lent_tables.Lent.{tables}
 use Rattle.array_data.proofs.lent_tables.Laws.{and-left, and-right}
@@ -134,7 +134,7 @@ module _ (places nulls : List ℕ) (first k : ℕ) {a : ℕ} {d : Bool} (ea : a 
 -- ---- the whole
 
 some-nodes : (formats schema : List ℕ) (first n : ℕ) → typed formats schema first n ≡ true → 1 ≤ n
-unfolding typed whole
+unfolding typed whole endFrom
 some-nodes formats schema first zero e = absurd (let k : _≡_ {A = ℕ} 0 1 = ap (λ t. cond t 1 0) e in omega (arith, k))
 some-nodes formats schema first (suc n) e = omega arith
 

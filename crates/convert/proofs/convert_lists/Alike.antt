@@ -13,8 +13,9 @@ use Rattle.schema.specs.Tree.{flag, dictionary, below, endFrom, endOf, childAt,
 use Rattle.schema.specs.Tree as trees
 use Rattle.schema.proofs.Trees.{child-inside, child-is, end-up}
 use Rattle.schema.proofs.Known.{typed-whole, typed-shape, same-node}
-use Rattle.array_data.specs.Typed.{NodeKind, fixedNode, stringNode, viewNode, listViewNode, listNode, sparseNode, denseNode, runEndNode, dictionaryNode, childNode, fieldOf, nodeOf, Is}
-use Rattle.array_data.specs.type_tree.Lent.{kindAt, treeOf}
+use Rattle.array_data.specs.NodeKinds.{NodeKind, fixedNode, stringNode, viewNode, listViewNode, listNode, sparseNode, denseNode, runEndNode, dictionaryNode, kindAt}
+use Rattle.array_data.specs.Typed.{childNode, fieldOf, nodeOf, Is}
+use Rattle.array_data.specs.type_tree.Lent.{treeOf}
 use Rattle.array_data.proofs.type_tree.Ids.{both, field-in}
 use Rattle.array_data.proofs.type_tree.Shaped.{Shaped, of-plain, of-view, of-list, of-lists, of-sparse, of-dense, of-run, of-dictionary, shaped}
 use Rattle.array_data.proofs.type_tree.Same.{end-same, kind-same}

@@ -15,7 +15,9 @@ use Rattle.columnar.proofs.Test.{every-out}
 use Rattle.model.proofs.Present.{present-nulls}
 use Rattle.array_data.specs.Tables.{Tables, part, lengthOf, offsetOf, validOf, firstBuffer, arrayWith, held, validIn}
 use Rattle.array_data.specs.Rules.{oneIn, twoIn, buffersIn}
-use Rattle.array_data.specs.Typed.{NodeKind, fixedNode, stringNode, viewNode, listViewNode, listNode, sparseNode, denseNode, runEndNode, dictionaryNode, Tree, fieldOf, nodeOf, Is, MeansPlain, Means, tablesFrom, plainBody, bodyOf, columnOf, kindRule, nodeRule, sourceRule, placedAs, placed}
+use Rattle.array_data.proofs.type_tree.ByKind.{placedAs, placed-as}
+use Rattle.array_data.specs.NodeKinds.{NodeKind, fixedNode, stringNode, viewNode, listViewNode, listNode, sparseNode, denseNode, runEndNode, dictionaryNode}
+use Rattle.array_data.specs.Typed.{Tree, fieldOf, nodeOf, Is, MeansPlain, Means, tablesFrom, plainBody, bodyOf, columnOf, kindRule, nodeRule, sourceRule, placed, kindIn}
 use Rattle.array_data.proofs.lent_tables.Laws.{and-left, and-right, first-in, second-in, two-one}
 use Rattle.refinement.specs.finishing.Shows.{ShowsNode, ShowsPlain, ShowsData, Shows, CountsNode, CountsData, Counts}
 use Rattle.anew.specs.lists.Named.{namedBody, named}
@@ -98,7 +100,7 @@ module _ (there here : Tree) (a : Alike there here) (x : Tables) (first n : ℕ)
       (first-of i p l (two-one own i z), second-of i p l z)
 
   -- the kind that a type's node is of
-  kind-of : (u : Ty) (i : ℕ) → Means here u i → Is here i (here .kind i)
+  kind-of : (u : Ty) (i : ℕ) → Means here u i → Is here i (kindIn here i)
   kind-of (tPlain (fixed m)) i h = (h .0, refl)
   kind-of (tPlain (string w)) i h = (h .0, refl)
   kind-of tView i h = (h .0, refl)
@@ -109,14 +111,14 @@ module _ (there here : Tree) (a : Alike there here) (x : Tables) (first n : ℕ)
   kind-of (tRunEnd w u) i h = (h .0 .0, refl)
   kind-of (tDictionary k q) i h = (h .0 .0, refl)
 
-  plain-kind : (q : Plain) (i : ℕ) → MeansPlain here q i → Is here i (here .kind i)
+  plain-kind : (q : Plain) (i : ℕ) → MeansPlain here q i → Is here i (kindIn here i)
   plain-kind (fixed m) i h = (h .0, refl)
   plain-kind (string w) i h = (h .0, refl)
 
   -- ---- byte for byte
 
   whole : (u : Ty) (i : ℕ) → 0 < i → Means here u i → ShowsData there Y u i (namedBody u (bodyOf here own u i)) → Shows there Y u i (named u (columnOf here own u i))
-  whole u i p h q = node i p (here .kind i) (kind-of u i h) (ShowsData there Y u i) (bodyOf here own u i) (namedBody u (bodyOf here own u i)) q
+  whole u i p h q = node i p (kindIn here i) (kind-of u i h) (ShowsData there Y u i) (bodyOf here own u i) (namedBody u (bodyOf here own u i)) q
 
   -- a union's child, at the node that the result's tree gives
   abbrev Field : (i : ℕ) (ids : List ℕ) (u : Ty) → ℕ → Type 0
@@ -163,7 +165,7 @@ module _ (there here : Tree) (a : Alike there here) (x : Tables) (first n : ℕ)
       )
   data-shows (tDictionary k q) i p h = (
     first-of i p (within i (dictionaryNode k) (h .0)) (placed-at (dictionaryNode k) i (h .0)),
-    node (suc i) (omega arith) (here .kind (suc i)) (plain-kind q (suc i) (h .1)) (ShowsPlain there Y q (suc i)) (plainBody here own q (suc i)) (plainBody here own q (suc i)) (plain-shows q (suc i) (omega arith) (h .1)),
+    node (suc i) (omega arith) (kindIn here (suc i)) (plain-kind q (suc i) (h .1)) (ShowsPlain there Y q (suc i)) (plainBody here own q (suc i)) (plainBody here own q (suc i)) (plain-shows q (suc i) (omega arith) (h .1)),
   )
 
   -- THE CHILD, where the column's tables name it
@@ -181,7 +183,7 @@ module _ (there here : Tree) (a : Alike there here) (x : Tables) (first n : ℕ)
     count i p l inner b c q = record { count-is = nulls-same x first n root i p l nulls ∙ sym (present-nulls (arrayWith own b i)); below = q }
 
     counted : (u : Ty) (i : ℕ) → 0 < i → Means here u i → CountsData there N u i (namedBody u (bodyOf here own u i)) → Counts there N u i (named u (columnOf here own u i))
-    counted u i p h q = count i p (within i (here .kind i) (kind-of u i h)) (CountsData there N u i) (bodyOf here own u i) (namedBody u (bodyOf here own u i)) q
+    counted u i p h q = count i p (within i (kindIn here i) (kind-of u i h)) (CountsData there N u i) (bodyOf here own u i) (namedBody u (bodyOf here own u i)) q
 
     data-counters : (u : Ty) (i : ℕ) → 0 < i → Means here u i → CountsData there N u i (namedBody u (bodyOf here own u i))
     data-counters (tPlain q) i p h = tt
@@ -201,7 +203,7 @@ module _ (there here : Tree) (a : Alike there here) (x : Tables) (first n : ℕ)
       counted u (suc (suc i)) (omega arith) (h .2) (data-counters u (suc (suc i)) (omega arith) (h .2)),
     )
     data-counters (tDictionary k q) i p h =
-        count (suc i) (omega arith) (within (suc i) (here .kind (suc i)) (plain-kind q (suc i) (h .1))) (λ s. Unit {0}) (plainBody here own q (suc i)) (plainBody here own q (suc i)) tt
+        count (suc i) (omega arith) (within (suc i) (kindIn here (suc i)) (plain-kind q (suc i) (h .1))) (λ s. Unit {0}) (plainBody here own q (suc i)) (plainBody here own q (suc i)) tt
 
     pub below-counters : (u : Ty) (i : ℕ) → 0 < i → Means here u i → Counts there N u i (named u (columnOf here own u i))
     below-counters u i p h = counted u i p h (data-counters u i p h)
@@ -224,4 +226,4 @@ module _ (there here : Tree) (a : Alike there here) (x : Tables) (first n : ℕ)
   below-placed i p l =
       let c : i < here .count = omega (arith, l, count-is) in
       let e = a .kinds i p (omega (arith, c, a .counters)) in
-      subst (λ k. T (placedAs there Y k i)) (sym e) (holds (placed-there (here .kind i) i p l (placed-at (here .kind i) i (c, refl))))
+      placed-as there Y i e (holds (placed-there (kindIn here i) i p l (placed-at (kindIn here i) i (c, refl))))

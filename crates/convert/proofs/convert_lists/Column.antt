@@ -18,7 +18,8 @@ use Rattle.columnar.proofs.Test.{Agrees, every-out, array-agrees, run-end-agree
 use Rattle.model.proofs.Bits.{getD-seg}
 use Rattle.array_data.specs.Tables.{Tables, lengthOf, offsetOf, firstBuffer, arrayWith, held, validIn}
 use Rattle.array_data.specs.Rules.{childOf, runEndRule}
-use Rattle.array_data.specs.Typed.{runEndNode, Tree, nodeOf, Is, Means, tablesFrom, bodyOf, columnOf, kindRule, nodeRule, sourceRule}
+use Rattle.array_data.specs.NodeKinds.{runEndNode}
+use Rattle.array_data.specs.Typed.{Tree, nodeOf, Is, Means, tablesFrom, bodyOf, columnOf, kindRule, nodeRule, sourceRule}
 use Rattle.array_data.specs.lent_tables.Lent.{tables}
 use Rattle.array_data.specs.type_tree.Lent.{treeOf}
 use Rattle.walk.specs.State.{far, word, keepsOf}

@@ -6,7 +6,7 @@ use mathlib.Core.List.{List, []}
 use Prim.Native.Nat.{ℕ, zero, suc}
 use native.Mathlib.Omega.{arith}
 use lib.ListN.{length, replicate}
-use Rattle.schema.specs.Tree.{whole, typed}
+use Rattle.schema.specs.Tree.{endFrom, whole, typed}
 use Rattle.array_data.specs.Tables.{Tables}
 use Rattle.walk.specs.Log.{Out}
 use Rattle.refinement.specs.plan_is_type.Planted.{joinOf}
@@ -24,7 +24,7 @@ own-none true e = refl
 own-none false e = absurd (omega (arith, e))
 
 no-type : (formats schema : List ℕ) (target : ℕ) → typed formats schema target 0 ≡ true → ⊥
-unfolding typed whole
+unfolding typed whole endFrom
 no-type formats schema target e = let k : _≡_ {A = ℕ} 0 1 = ap (λ t. cond t 1 0) e in omega (arith, k)
 
 -- a column of n nodes and a target of tn, parts and room that are lent for it

@@ -16,9 +16,11 @@ use Rattle.schema.specs.Tree as trees
 use Rattle.schema.proofs.Trees.{child-inside}
 use Rattle.schema.proofs.Known.{typed-whole, typed-shape}
 use Rattle.array_data.specs.Tables.{Tables, firstBuffer}
-use Rattle.array_data.specs.Typed.{listViewNode, listNode, Tree, fieldOf, nodeOf, Is, Means, tablesFrom, bodyOf, columnOf, sourceRule}
+use Rattle.array_data.proofs.type_tree.ByKind.{type-as}
+use Rattle.array_data.specs.NodeKinds.{listViewNode, listNode, kindAt}
+use Rattle.array_data.specs.Typed.{Tree, fieldOf, nodeOf, Is, Means, tablesFrom, bodyOf, columnOf, sourceRule}
 use Rattle.array_data.specs.lent_tables.Lent.{tables}
-use Rattle.array_data.specs.type_tree.Lent.{kindAt, treeOf, tyAs, tyOf, typeOf}
+use Rattle.array_data.specs.type_tree.Lent.{treeOf, tyOf, typeOf}
 use Rattle.array_data.proofs.Typed.{column-source}
 use Rattle.array_data.proofs.type_tree.Ids.{both}
 use Rattle.array_data.proofs.type_tree.Shaped.{shaped, at-list, at-lists, at-run}
@@ -140,8 +142,7 @@ module _ (formats schema : List ℕ) (x : Tables) (first m target : ℕ) (ok : c
 
   -- THE RESULT'S TYPE
   pub type-is : typeOf formats schema target n ≡ tList wide item
-  unfolding tyOf
-  type-is = ap (λ k. tyAs there (tyOf there 7) k 0) list-kind
+  type-is = type-as there 7 0 list-kind
 
   one-child : below schema target 0 ≡ 1
   one-child = list-below formats schema target 0 wide list-kind (shaped formats schema target 0 (typed-shape formats schema target n (due .is-typed) 0 (omega arith)))

@@ -8,7 +8,7 @@ use native.Mathlib.Nat.{zero-add}
 use native.Mathlib.Omega.{arith}
 use lib.ListN.{getD}
 use Rattle.columnar.specs.Row.{list, rows, union}
-use Rattle.columnar.specs.Types.{Number, i8, Plain, fixed, string, Ty, tPlain, tView, tListView, tList, tSparse, tDense, tRunEnd, tDictionary}
+use Rattle.columnar.specs.Types.{Number, int, w1, Plain, fixed, string, Ty, tPlain, tView, tListView, tList, tSparse, tDense, tRunEnd, tDictionary}
 use Rattle.columnar.specs.Array.{item, ok, sight}
 use Rattle.columnar.specs.RunEnd.{endOf, firstAbove}
 use Rattle.columnar.specs.Reading.{slotAt, read, readAll, Source}
@@ -16,8 +16,10 @@ use Rattle.columnar.proofs.FirstAbove.{first-below}
 use Rattle.columnar.proofs.Kept.{seg-same}
 use Rattle.columnar.proofs.WiderKinds.{row-within}
 use Rattle.array_data.specs.Tables.{Tables, lengthOf, offsetOf, validOf, firstBuffer, secondBuffer, arrayWith}
-use Rattle.array_data.specs.Typed.{NodeKind, fixedNode, stringNode, viewNode, listViewNode, listNode, sparseNode, denseNode, runEndNode, dictionaryNode, Tree, fieldOf, nodeOf, MeansPlain, Means, bodyOf, columnOf}
-use Rattle.array_data.specs.type_tree.Lent.{plainAs, tyAs, tyOf}
+use Rattle.array_data.proofs.type_tree.ByKind.{plainAs, tyAs, type-by}
+use Rattle.array_data.specs.NodeKinds.{NodeKind, fixedNode, stringNode, viewNode, listViewNode, listNode, sparseNode, denseNode, runEndNode, dictionaryNode}
+use Rattle.array_data.specs.Typed.{Tree, fieldOf, nodeOf, MeansPlain, Means, bodyOf, columnOf, kindIn}
+use Rattle.array_data.specs.type_tree.Lent.{tyOf}
 use Rattle.convert.proofs.convert_lists.Subtree.{Alike, kid-same}
 
 -- ---- two types of one node
@@ -41,18 +43,21 @@ module _ (there here : Tree) (a : Alike there here) where
 
   pub likewise : (f i : ℕ) → 0 < i → Means there (tyOf there f i) i → Likewise (tyOf there f i) (tyOf here f i)
   unfolding tyOf
-  likewise zero i p h = of-plain (fixed i8)
-  likewise (suc f) i p h = go (there .kind i) refl h (likewise f)
+  likewise zero i p h = of-plain (fixed (int w1))
+  likewise (suc f) i p h =
+      subst (λ u. Likewise u (tyOf here (suc f) i)) (sym (type-by there f i))
+      (subst (Likewise (tyAs there (tyOf there f) (kindIn there i) i)) (sym (type-by here f i))
+      (go (kindIn there i) refl (subst (λ u. Means there u i) (type-by there f i) h) (likewise f)))
     where
       -- the other tree's node is of the same kind
-      same : (k : NodeKind) → there .kind i ≡ k → i < there .count → (u : Ty) → Likewise u (tyAs here (tyOf here f) k i) → Likewise u (tyAs here (tyOf here f) (here .kind i) i)
+      same : (k : NodeKind) → kindIn there i ≡ k → i < there .count → (u : Ty) → Likewise u (tyAs here (tyOf here f) k i) → Likewise u (tyAs here (tyOf here f) (kindIn here i) i)
       same k e l u q = subst (λ k. Likewise u (tyAs here (tyOf here f) k i)) (sym e ∙ a .kinds i p l) q
 
       field : (ids : List ℕ) (c : ℕ) → Likewise (tyOf there f (nodeOf there i ids c)) (tyOf here f (nodeOf there i ids c)) → Likewise (tyOf there f (nodeOf there i ids c)) (tyOf here f (nodeOf here i ids c))
       field ids c q = subst (λ k. Likewise (tyOf there f (nodeOf there i ids c)) (tyOf here f k)) (kid-same there here a i (fieldOf ids c) p) q
 
-      go : (k : NodeKind) → there .kind i ≡ k → Means there (tyAs there (tyOf there f) k i) i → ((j : ℕ) → 0 < j → Means there (tyOf there f j) j → Likewise (tyOf there f j) (tyOf here f j))
-          → Likewise (tyAs there (tyOf there f) k i) (tyAs here (tyOf here f) (here .kind i) i)
+      go : (k : NodeKind) → kindIn there i ≡ k → Means there (tyAs there (tyOf there f) k i) i → ((j : ℕ) → 0 < j → Means there (tyOf there f j) j → Likewise (tyOf there f j) (tyOf here f j))
+          → Likewise (tyAs there (tyOf there f) k i) (tyAs here (tyOf here f) (kindIn here i) i)
       go (fixedNode m) e h r = same (fixedNode m) e (h .0) _ (of-plain (fixed m))
       go (stringNode w) e h r = same (stringNode w) e (h .0) _ (of-plain (string w))
       go viewNode e h r = same viewNode e (h .0) _ of-view
@@ -62,9 +67,9 @@ module _ (there here : Tree) (a : Alike there here) where
       go (denseNode ids) e h r = same (denseNode ids) e (h .0 .0) _ (of-dense ids (λ c q. field ids c (r (nodeOf there i ids c) (a .later i (fieldOf ids c) p) (h .1 c q .1))))
       go (runEndNode w) e h r = same (runEndNode w) e (h .0 .0) _ (of-run-end w (r (suc (suc i)) (omega arith) (h .2)))
       go (dictionaryNode m) e h r =
-          let l = plain-inside (plainAs (there .kind (suc i))) (suc i) (h .1) in
+          let l = plain-inside (plainAs (kindIn there (suc i))) (suc i) (h .1) in
           same (dictionaryNode m) e (h .0 .0) _
-          (subst (λ k. Likewise (tDictionary m (plainAs (there .kind (suc i)))) (tDictionary m (plainAs k))) (a .kinds (suc i) (omega arith) l) (of-dictionary m (plainAs (there .kind (suc i)))))
+          (subst (λ k. Likewise (tDictionary m (plainAs (kindIn there (suc i)))) (tDictionary m (plainAs k))) (a .kinds (suc i) (omega arith) l) (of-dictionary m (plainAs (kindIn there (suc i)))))
 
 -- ---- one table, read by both
 

@@ -11,11 +11,12 @@ use borrow.Author.Tests.{le-leb, eq-eqb, ne-eqb, eqb-true}
 use Rattle.columnar.specs.Types.{Plain, fixed, string, Ty, tPlain, tView, tListView, tList, tSparse, tDense, tRunEnd, tDictionary}
 use Rattle.schema.specs.formats.Code.{codeAt}
 use Rattle.schema.specs.union_ids.Ids.{idsAt}
-use Rattle.schema.specs.Tree.{field, dictionary, below, endFrom, dueFrom, bare, childForEach, isValues, endOf, childAt, whole, codeOf, idsOf, valuesShape, endsShape, leafShape, keysShape, listShape, unionShape, runShape, shape}
+use Rattle.schema.proofs.Due.{dueFrom, whole-is}
+use Rattle.schema.specs.Tree.{field, dictionary, below, endFrom, bare, childForEach, isValues, endOf, childAt, whole, codeOf, idsOf, valuesShape, endsShape, leafShape, keysShape, listShape, unionShape, runShape, shape}
 use Rattle.schema.proofs.Trees.{child-inside, end-after, end-inside}
 use Rattle.schema.proofs.Depth.{nested, child-before}
-use Rattle.array_data.specs.Typed.{Tree, NodeKind, childNode, fieldOf, nodeOf, Is, MeansPlain, Means}
-use Rattle.array_data.specs.type_tree.Lent.{kindAt}
+use Rattle.array_data.specs.NodeKinds.{NodeKind, kindAt}
+use Rattle.array_data.specs.Typed.{Tree, childNode, fieldOf, nodeOf, Is, MeansPlain, Means, kindIn, nullableIn, subtreeEnd}
 use Rattle.array_data.proofs.Names.{unionKind}
 
 -- ---- a tree without its root
@@ -58,13 +59,12 @@ module _ (schema : List ℕ) (first : ℕ) where
 
   -- what is below a root with one child is whole
   pub whole-past : (n : ℕ) → 1 ≤ n → below schema first 0 ≡ 1 → whole schema first (suc n) ≡ true → whole schema (suc first) n ≡ true
-  unfolding whole
   whole-past n l b w =
-      let p = and-both (leb 1 (suc n) && eqb (dueFrom schema first (suc n) 1 0) 0) (eqb (endOf schema first (suc n) 0) (suc n)) w in
+      let p = and-both (leb 1 (suc n) && eqb (dueFrom schema first (suc n) 1 0) 0) (eqb (endOf schema first (suc n) 0) (suc n)) (sym (whole-is schema first (suc n)) ∙ w) in
       let q = and-both (leb 1 (suc n)) (eqb (dueFrom schema first (suc n) 1 0) 0) (p .0) in
       let d : dueFrom schema (suc first) n 1 0 ≡ 0 = sym (root-due n b) ∙ eqb-true _ _ (q .1) in
       let e : suc (endOf schema (suc first) n 0) ≡ suc n = sym (root-end n b) ∙ eqb-true _ _ (p .1) in
-      rw (le-leb 1 n l, eq-eqb _ _ d, eq-eqb (endOf schema (suc first) n 0) n (omega arith))
+      whole-is schema (suc first) n ∙ rw (le-leb 1 n l, eq-eqb _ _ d, eq-eqb (endOf schema (suc first) n 0) n (omega arith))
     where
       and-both : (a b : Bool) → a && b ≡ true → (a ≡ true) × (b ≡ true)
       and-both true b h = (refl, h)
@@ -151,15 +151,15 @@ module _ (schema : List ℕ) (first n : ℕ) (w : whole schema first n ≡ true)
 -- what they agree on
 pub record Alike (t u : Tree) : Type 0 where
   pub counters : t .count ≡ u .count
-  pub kinds : (i : ℕ) → 0 < i → i < t .count → t .kind i ≡ u .kind i
-  pub ends : (i : ℕ) → 0 < i → t .end i ≡ u .end i
-  pub flags : (i : ℕ) (b : Bool) (ids : List ℕ) → 0 < i → Is t i (unionKind b ids) → (c : ℕ) → List·Memᴰ c ids → t .nullable (nodeOf t i ids c) ≡ u .nullable (nodeOf t i ids c)
+  pub kinds : (i : ℕ) → 0 < i → i < t .count → kindIn t i ≡ kindIn u i
+  pub ends : (i : ℕ) → 0 < i → subtreeEnd t i ≡ subtreeEnd u i
+  pub flags : (i : ℕ) (b : Bool) (ids : List ℕ) → 0 < i → Is t i (unionKind b ids) → (c : ℕ) → List·Memᴰ c ids → nullableIn t (nodeOf t i ids c) ≡ nullableIn u (nodeOf t i ids c)
   pub later : (i j : ℕ) → 0 < i → 0 < childNode t i j
 
 module _ (t u : Tree) (a : Alike t u) where
   pub kid-same : (i j : ℕ) → 0 < i → childNode t i j ≡ childNode u i j
   kid-same i zero l = refl
-  kid-same i (suc j) l = a .ends (childNode t i j) (a .later i j l) ∙ ap (u .end) (kid-same i j l)
+  kid-same i (suc j) l = a .ends (childNode t i j) (a .later i j l) ∙ ap (subtreeEnd u) (kid-same i j l)
 
   is-same : (i : ℕ) (k : NodeKind) → 0 < i → Is t i k → Is u i k
   is-same i k l h = (omega (arith, a .counters, h .0), sym (a .kinds i l (h .0)) ∙ h .1)
@@ -177,14 +177,14 @@ module _ (t u : Tree) (a : Alike t u) where
   means-same (tSparse ids nullable f) i l h = (
     is-same i _ l (h .0),
     λ c q. let e = kid-same i (fieldOf ids c) l in (
-      h .1 c q .0 ∙ a .flags i true ids l (h .0) c q ∙ ap (u .nullable) e,
+      h .1 c q .0 ∙ a .flags i true ids l (h .0) c q ∙ ap (nullableIn u) e,
       subst (Means u (f c)) e (means-same (f c) (nodeOf t i ids c) (a .later i (fieldOf ids c) l) (h .1 c q .1)),
     ),
   )
   means-same (tDense ids nullable f) i l h = (
     is-same i _ l (h .0),
     λ c q. let e = kid-same i (fieldOf ids c) l in (
-      h .1 c q .0 ∙ a .flags i false ids l (h .0) c q ∙ ap (u .nullable) e,
+      h .1 c q .0 ∙ a .flags i false ids l (h .0) c q ∙ ap (nullableIn u) e,
       subst (Means u (f c)) e (means-same (f c) (nodeOf t i ids c) (a .later i (fieldOf ids c) l) (h .1 c q .1)),
     ),
   )

@@ -13,7 +13,9 @@ use Rattle.columnar.specs.Reading.{Column, readAll, Source}
 use Rattle.columnar.specs.Test.{test}
 use Rattle.columnar.proofs.Test.{test-complete}
 use Rattle.array_data.specs.Tables.{Tables, part, place}
-use Rattle.array_data.specs.Typed.{Tree, listViewNode, columnOf, sourceRule, placedAs, placed}
+use Rattle.array_data.proofs.type_tree.ByKind.{placedAs, placed-as}
+use Rattle.array_data.specs.NodeKinds.{listViewNode}
+use Rattle.array_data.specs.Typed.{Tree, columnOf, sourceRule, placed}
 use Rattle.array_data.proofs.type_tree.Source.{lent-obeys}
 use Rattle.refinement.specs.log_in_room.Room.{AllBelow}
 use Rattle.columns.specs.Grounds.{columnGround}
@@ -140,7 +142,7 @@ module _ (formats schema : List ℕ) (x : Tables) (first m target : ℕ) (good :
           rw (held-at x first n root 0 some-node, at 0 (omega arith), at 1 (omega arith), at 2 (omega arith), at 3 (omega arith), at 4 (omega arith), at 5 (omega arith), at 6 (omega arith), i .0, i .1, i .2) refl
 
       all-placed : (j : ℕ) → j < n → T (placed tree tablesAfter j)
-      all-placed zero l = subst (λ k. T (placedAs tree tablesAfter k 0)) (sym (lentView.view-kind formats schema x first m target good due)) (holds root-placed)
+      all-placed zero l = placed-as tree tablesAfter 0 (lentView.view-kind formats schema x first m target good due) (holds root-placed)
       all-placed (suc j) l =
           below-placed tree here (lentView.both-alike formats schema x first m target good due) x first n root refl (lentView.rules formats schema x first m target good due) longer same-part (suc j) (omega arith) l
 

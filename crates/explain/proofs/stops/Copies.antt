@@ -29,6 +29,7 @@ use Rattle.explain.specs.stops.Table.{Blank, accepted, not-lent, offset,
 use Rattle.explain.proofs.stops.Says.{Says, says-done, says-fail, says-only, says-cond, says-need, says-needed, says-found, says-past, says-wrote, passes-done, passes-wrote, passes-next, says-then, says-each}
 use Rattle.explain.proofs.stops.Above.{Wide, four-wide, wide-offset, wide-end, over-offset, over-end, AboveMost, extended-above}
 use Rattle.walk.proofs.Names.{putList, copyFields}
+use Rattle.walk.proofs.Offsets.{string-is, list-is}
 
 -- ---- walks that have no ground but 12
 
@@ -134,11 +135,12 @@ module _ (x : Join) (walk : Walk) (why : WhyWalk) (below : (k a n : ℕ) (c : Li
   stretch-says w i from n Falls c h = says-fail c
 
   list-says : (w i slot n : ℕ) (c : List ℕ) → Wide w → Says (whyList x walk why w i slot n c) (copyList x walk w i slot n c)
-  unfolding whyList copyList
+  unfolding whyList
   list-says w i slot n c z =
-      says-cond (eqb n 0) (λ e. says-done c)
+      rw (list-is x walk w i slot n c)
+      (says-cond (eqb n 0) (λ e. says-done c)
       (λ e. says-needed _ c (λ f. says-needed _ c
-      (λ g. stretch-says w i (place x i 3 + w * slot) n (extended w (x .body) (place x i 3 + w * slot) n (rows c (suc i))) c (extended-above w (x .body) (place x i 3 + w * slot) n (rows c (suc i)) z))))
+      (λ g. stretch-says w i (place x i 3 + w * slot) n (extended w (x .body) (place x i 3 + w * slot) n (rows c (suc i))) c (extended-above w (x .body) (place x i 3 + w * slot) n (rows c (suc i)) z)))))
 
   bytes-says : (w i from n : ℕ) (e : Extended) (c : List ℕ) → AboveMost w e → Says (whyBytes x walk why w i from n e c) (putExtended x i w from n e c)
   unfolding fail
@@ -147,11 +149,12 @@ module _ (x : Join) (walk : Walk) (why : WhyWalk) (below : (k a n : ℕ) (c : Li
   bytes-says w i from n Falls c h = says-fail c
 
   string-says : (w i slot n : ℕ) (c : List ℕ) → Wide w → Says (whyString x walk why w i slot n c) (copyString x i w slot n c)
-  unfolding whyString copyString
+  unfolding whyString
   string-says w i slot n c z =
-      says-cond (eqb n 0) (λ e. says-done c)
+      rw (string-is x i w slot n c)
+      (says-cond (eqb n 0) (λ e. says-done c)
       (λ e. says-needed _ c
-      (λ g. bytes-says w i (place x i 3 + w * slot) n (extended w (x .body) (place x i 3 + w * slot) n (bytes c i)) c (extended-above w (x .body) (place x i 3 + w * slot) n (bytes c i) z)))
+      (λ g. bytes-says w i (place x i 3 + w * slot) n (extended w (x .body) (place x i 3 + w * slot) n (bytes c i)) c (extended-above w (x .body) (place x i 3 + w * slot) n (bytes c i) z))))
 
   fields-say : (slot n end f k : ℕ) (c : List ℕ) → Says (whyFields x walk why slot n end f k c) (copyFields x walk slot n end f k c)
   unfolding whyFields eachField

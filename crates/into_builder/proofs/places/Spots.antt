@@ -17,10 +17,10 @@ use Rattle.array_data.specs.Sources.{firstOf}
 use Rattle.plan.specs.parts.Parts.{nodesOf, copied, hasPart, hasOffsets, entrySize, neededBy, needed, partsWithin, partsHold, Used}
 use Rattle.plan.proofs.parts.Placed.{within-used, used-holds, bits-held}
 use Rattle.refinement.specs.orders.Order.{Lent, sourceCount}
-use Rattle.refinement.specs.finishing.Finish.{zerosAt, nullsAt, buffersOf, validPlace, bufferStart, bufferSize, copiedPlace, keptPlace, placeAt, nullTable}
+use Rattle.refinement.specs.finishing.Finish.{zerosAt, nullsAt, buffersOf, buffersBefore, bufferStart, bufferSize, copiedPlace, keptPlace, placeAt, nullTable}
 use Rattle.into_builder.specs.buffers.Names.{lent, countAt, countBefore}
 use Rattle.into_builder.specs.counts.Counts.{zerosOf, BitsIn}
-use Rattle.into_builder.specs.places.Places.{Placed}
+use Rattle.into_builder.specs.places.Places.{Placed, validPlace}
 use Rattle.into_builder.proofs.buffers.Names.{of-same, before-same}
 
 -- ---- the bytes of a buffer
@@ -77,15 +77,17 @@ module _ (plan parts counters : List ℕ) (m : ℕ) (w : partsWithin plan parts 
 
 -- ---- the nine numbers of a node
 
-valid-same : (x y : Lent) (bs cs counters room : List ℕ) (base i j : ℕ) → x .plan ≡ y .plan → x .parts ≡ y .parts
-    → validPlace x bs counters room base i j ≡ validPlace y cs counters room base i j
-valid-same x y bs cs counters room base i zero e f = refl
-valid-same x y bs cs counters room base i (suc zero) e f = ap₂ (λ p q. base + startOf p q i 0) e f
-valid-same x y bs cs counters room base i (suc (suc j)) e f = refl
+valid-place : (x : Lent) (bs counters room : List ℕ) (base i j : ℕ) → j < 3
+    → cond (eqb (zerosAt x bs counters room base i) 0) 0 (validPlace (x .plan) (x .parts) counters base i j) ≡ copiedPlace x bs counters room base i j
+unfolding copiedPlace
+valid-place x bs counters room base i zero l = refl
+valid-place x bs counters room base i (suc zero) l = refl
+valid-place x bs counters room base i (suc (suc zero)) l = refl
+valid-place x bs counters room base i (suc (suc (suc j))) l = absurd (omega arith)
 
 module _ (plan parts counters room : List ℕ) (base i j z : ℕ) where
   abbrev valid : ℕ
-  valid = validPlace (lent plan parts [] [] [] []) [] counters room base i j
+  valid = validPlace plan parts counters base i j
 
   pub valid-dropped : z ≡ 0 → 0 ≡ cond (eqb z 0) 0 valid
   valid-dropped h = rw h
@@ -102,11 +104,9 @@ module _ (plan parts counters room : List ℕ) (base i j z : ℕ) where
 
 module _ (x : Lent) (bs counters room : List ℕ) (base i j : ℕ) where
   pub copied-valid : {z r : ℕ} → j < 3 → z ≡ zerosOf (x .plan) (x .parts) counters room i
-      → r ≡ cond (eqb z 0) 0 (validPlace (lent (x .plan) (x .parts) [] [] [] []) [] counters room base i j) → r ≡ copiedPlace x bs counters room base i j
-  unfolding copiedPlace zerosAt
-  copied-valid {z} l e g =
-      rw (lt-ltb j 3 l)
-      (g ∙ ap₂ (λ a b. cond (eqb a 0) 0 b) e (valid-same (lent (x .plan) (x .parts) [] [] [] []) x [] bs counters room base i j refl refl))
+      → r ≡ cond (eqb z 0) 0 (validPlace (x .plan) (x .parts) counters base i j) → r ≡ copiedPlace x bs counters room base i j
+  unfolding zerosAt
+  copied-valid {z} l e g = g ∙ ap (λ a. cond (eqb a 0) 0 (validPlace (x .plan) (x .parts) counters base i j)) e ∙ valid-place x bs counters room base i j l
 
   pub copied-three : {r : ℕ} → j ≡ 3 → r ≡ bufferStart x bs counters room base i 1 → r ≡ copiedPlace x bs counters room base i j
   unfolding copiedPlace
@@ -124,14 +124,28 @@ module _ (x : Lent) (bs counters room : List ℕ) (base i j : ℕ) where
   unfolding copiedPlace
   copied-six e g = rw e g
 
-  pub copied-view : {r : ℕ} → 3 ≤ j → (j ≡ 3 → ⊥) → (j ≡ 4 → ⊥) → (j ≡ 5 → ⊥) → (j ≡ 6 → ⊥)
+  pub copied-view : {r : ℕ} → j < 9 → 3 ≤ j → (j ≡ 3 → ⊥) → (j ≡ 4 → ⊥) → (j ≡ 5 → ⊥) → (j ≡ 6 → ⊥)
       → r ≡ cond (isView (codeOf (x .plan) i)) (cond (eqb j 7) (countBefore (x .plan) (x .sources) (x .places) i) (countAt (x .plan) (x .sources) (x .places) i)) 0
       → r ≡ copiedPlace x bs counters room base i j
   unfolding copiedPlace
-  copied-view l a b c d g =
-      rw (le-ltb j 3 l, ne-eqb j 3 a, ne-eqb j 4 b, ne-eqb j 5 c, ne-eqb j 6 d, before-same x bs counters room base i, of-same x bs counters room base i (min (sourceCount (x .plan)) 16))
-      (g ∙ go (isView (codeOf (x .plan) i)))
+  copied-view k l a b c d g =
+      g ∙ go (isView (codeOf (x .plan) i)) ∙ sym (ap₂ (λ m s. cond (isView (codeOf (x .plan) i)) (cond (eqb j 7) m s) 0) (before-same x bs counters room base i) (of-same x bs counters room base i (min (sourceCount (x .plan)) 16)))
+      ∙ last j k l a b c d
     where
+      last : (j : ℕ) → j < 9 → 3 ≤ j → (j ≡ 3 → ⊥) → (j ≡ 4 → ⊥) → (j ≡ 5 → ⊥) → (j ≡ 6 → ⊥)
+          → cond (isView (codeOf (x .plan) i)) (cond (eqb j 7) (buffersBefore x bs counters room base i) (buffersOf x bs counters room base i (min (sourceCount (x .plan)) 16))) 0
+          ≡ copiedPlace x bs counters room base i j
+      last zero k l a b c d = absurd (omega arith)
+      last (suc zero) k l a b c d = absurd (omega arith)
+      last (suc (suc zero)) k l a b c d = absurd (omega arith)
+      last (suc (suc (suc zero))) k l a b c d = absurd (a refl)
+      last (suc (suc (suc (suc zero)))) k l a b c d = absurd (b refl)
+      last (suc (suc (suc (suc (suc zero))))) k l a b c d = absurd (c refl)
+      last (suc (suc (suc (suc (suc (suc zero)))))) k l a b c d = absurd (d refl)
+      last (suc (suc (suc (suc (suc (suc (suc zero))))))) k l a b c d = refl
+      last (suc (suc (suc (suc (suc (suc (suc (suc zero)))))))) k l a b c d = refl
+      last (suc (suc (suc (suc (suc (suc (suc (suc (suc j))))))))) k l a b c d = absurd (omega arith)
+
       go : (v : Bool)
           → cond v (cond (eqb j 7) (countBefore (x .plan) (x .sources) (x .places) i) (cond v (buffersOf (lent (x .plan) [] (x .sources) [] (x .places) []) [] [] [] 0 i (min (sourceCount (x .plan)) 16)) 0)) 0
           ≡ cond v (cond (eqb j 7) (countBefore (x .plan) (x .sources) (x .places) i) (buffersOf (lent (x .plan) [] (x .sources) [] (x .places) []) [] [] [] 0 i (min (sourceCount (x .plan)) 16))) 0

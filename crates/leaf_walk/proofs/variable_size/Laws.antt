@@ -19,6 +19,7 @@ use Rattle.walk.specs.Log.{Did, put, applyIf, wrote}
 use Rattle.walk.specs.Leaves.{putString, putExtended, copyString}
 use Rattle.walk.proofs.Laws.{fail-did, done-did, wrote-did, need-no, need-ok, next-ok}
 use Rattle.leaf_walk.proofs.Laws.{wrote-behind}
+use Rattle.walk.proofs.Offsets.{string-is}
 
 -- ---- what the tests say
 
@@ -101,5 +102,4 @@ module _ (x : Join) (i : ℕ) (wr : Bool) (c room : List ℕ) where
     pub copy-in : {at g : ℕ} {r : Bool} {c2 room2 : List ℕ} → (n ≡ 0 → ⊥) → at ≡ place x i 3 → r ≡ rowsIn x at w slot (n + 1) → not r ≡ false
         → Did (x .plan) (x .parts) wr (putExtended x i w (at + w * slot) n (extended w (x .body) (at + w * slot) n (bytes c i)) c) room g c2 room2
         → Did (x .plan) (x .parts) wr (copyString x i w slot n c) room g c2 room2
-    unfolding copyString
-    copy-in h e q k d = rw (ne-eqb n 0 h) (need-ok 12 c (rw (e, add-one n) at (yes q k)) (rw e at d))
+    copy-in h e q k d = rw (string-is x i w slot n c, ne-eqb n 0 h) (need-ok 12 c (rw (e, add-one n) at (yes q k)) (rw e at d))

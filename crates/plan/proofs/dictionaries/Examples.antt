@@ -3,7 +3,7 @@ use mathlib.Core.Path.{_≡_, refl}
 use mathlib.Core.Bool.{Bool, true, false}
 use mathlib.Core.List.{List, [], _∷_}
 use Prim.Native.Nat.{ℕ}
-use Rattle.columnar.specs.Types.{Number, u8, u64}
+use Rattle.columnar.specs.Types.{Number, uint, w1, w8}
 use Rattle.columnar.specs.Array.{bit}
 use Rattle.model.specs.Opening.{shared, allKeysFit}
 use Rattle.array_data.specs.lent_tables.Lent.{tables}
@@ -17,16 +17,16 @@ fits k a b off at =
 -- K7 and K8, K9, K16, and the last two with an offset that differs: then they are not shared
 abbrev answers : List Bool
 answers =
-    fits u8 200 56 0 200
-    ∷ fits u8 200 57 0 200
-    ∷ fits u8 256 0 0 200
-    ∷ fits u8 0 256 0 200
-    ∷ fits u8 256 256 0 100
-    ∷ fits u8 257 257 0 100
-    ∷ fits u8 128 128 1 100
-    ∷ fits u8 129 129 1 100
-    ∷ fits u64 18446744073709551615 1 0 200
-    ∷ fits u64 18446744073709551615 2 0 200
+    fits (uint w1) 200 56 0 200
+    ∷ fits (uint w1) 200 57 0 200
+    ∷ fits (uint w1) 256 0 0 200
+    ∷ fits (uint w1) 0 256 0 200
+    ∷ fits (uint w1) 256 256 0 100
+    ∷ fits (uint w1) 257 257 0 100
+    ∷ fits (uint w1) 128 128 1 100
+    ∷ fits (uint w1) 129 129 1 100
+    ∷ fits (uint w8) 18446744073709551615 1 0 200
+    ∷ fits (uint w8) 18446744073709551615 2 0 200
     ∷ []
 
 pub checked : answers ≡ true ∷ false ∷ false ∷ true ∷ true ∷ false ∷ true ∷ false ∷ true ∷ false ∷ []

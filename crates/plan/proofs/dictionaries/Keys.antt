@@ -8,7 +8,7 @@ use native.Mathlib.Omega.{arith}
 use lib.ListN.{getD}
 use lib.Dec.{leb, ltb}
 use borrow.Author.Tests.{le-leb, leb-true, leb-false, lt-ltb, le-ltb}
-use Rattle.columnar.specs.Types.{Number, i8, u8, i16, u16, i32, u32, i64, u64, limit, keyFits}
+use Rattle.columnar.specs.Types.{Number, int, uint, w1, w2, w4, w8, limit, keyFits}
 use Rattle.columnar.specs.Dictionary.{Dictionary}
 use Rattle.model.specs.Opening.{shared, entriesBefore, startOfKeys}
 use Rattle.schema.specs.formats.Code.{isInteger}
@@ -26,14 +26,14 @@ code-below code h = let l = leb-true code 8 (and-eq-true-iff (leb 1 code) (leb c
 pub top-limit : (code : ℕ) → isInteger code ≡ true → (n : Number) → numberOf code ≡ some n → limit n ≡ getD tops code 0 + 1
 unfolding numberOf
 top-limit zero h n e = absurd (Option·none-ne-some n e)
-top-limit (suc zero) h n e = ap limit (sym (Option·some-injective i8 n e))
-top-limit (suc (suc zero)) h n e = ap limit (sym (Option·some-injective u8 n e))
-top-limit (suc (suc (suc zero))) h n e = ap limit (sym (Option·some-injective i16 n e))
-top-limit (suc (suc (suc (suc zero)))) h n e = ap limit (sym (Option·some-injective u16 n e))
-top-limit (suc (suc (suc (suc (suc zero))))) h n e = ap limit (sym (Option·some-injective i32 n e))
-top-limit (suc (suc (suc (suc (suc (suc zero)))))) h n e = ap limit (sym (Option·some-injective u32 n e))
-top-limit (suc (suc (suc (suc (suc (suc (suc zero))))))) h n e = ap limit (sym (Option·some-injective i64 n e))
-top-limit (suc (suc (suc (suc (suc (suc (suc (suc zero)))))))) h n e = ap limit (sym (Option·some-injective u64 n e))
+top-limit (suc zero) h n e = ap limit (sym (Option·some-injective (int w1) n e))
+top-limit (suc (suc zero)) h n e = ap limit (sym (Option·some-injective (uint w1) n e))
+top-limit (suc (suc (suc zero))) h n e = ap limit (sym (Option·some-injective (int w2) n e))
+top-limit (suc (suc (suc (suc zero)))) h n e = ap limit (sym (Option·some-injective (uint w2) n e))
+top-limit (suc (suc (suc (suc (suc zero))))) h n e = ap limit (sym (Option·some-injective (int w4) n e))
+top-limit (suc (suc (suc (suc (suc (suc zero)))))) h n e = ap limit (sym (Option·some-injective (uint w4) n e))
+top-limit (suc (suc (suc (suc (suc (suc (suc zero))))))) h n e = ap limit (sym (Option·some-injective (int w8) n e))
+top-limit (suc (suc (suc (suc (suc (suc (suc (suc zero)))))))) h n e = ap limit (sym (Option·some-injective (uint w8) n e))
 top-limit (suc (suc (suc (suc (suc (suc (suc (suc (suc c))))))))) h n e =
     let l = code-below (suc (suc (suc (suc (suc (suc (suc (suc (suc c))))))))) h in
     absurd (omega arith)

@@ -11,8 +11,9 @@ use lib.Dec.{leb, ltb, eqb, eqb·zero-suc, eqb·suc-zero, eqb·suc-suc}
 use borrow.Author.Tests.{le-leb, lt-leb, leb-true, leb-false, eq-eqb, ne-eqb, eqb-true, eqb-false, lt-ltb}
 use Rattle.columnar.specs.Array.{Array, bit, nullsIn, nullCount}
 use Rattle.columnar.specs.Dictionary.{Dictionary}
-use Rattle.columnar.specs.Test.{same as sameList}
-use Rattle.model.specs.Opening.{anyNull, ptrEq, shared}
+use Rattle.columnar.specs.Test.{every, same as sameList}
+use Rattle.columnar.proofs.Test.{every-false}
+use Rattle.model.specs.Opening.{keeps, ptrEq, shared}
 use Rattle.bits.specs.Bits.{bits, bitsAt, zeros}
 use Rattle.bits.proofs.Laws.{bit-at, take-bits, drop-bits, length-bits, below-at, below-bits}
 use Rattle.bits.proofs.Puts.{zeros-add}
@@ -202,24 +203,18 @@ module _ (x : Tables) where
 -- ---- one source after the other
 
 module _ {B : Type 0} (xs : ℕ → Array B) where
-  pub nulls-no : (s : ℕ) {r : ℕ} → anyNull s xs ≡ false → r ≡ nullCount (xs s) → r ≡ 0 → anyNull (suc s) xs ≡ false
-  nulls-no s {r} h e z = let q : nullCount (xs s) ≡ 0 = sym e ∙ z in rw (h, q)
+  abbrev NoNull : ℕ → Bool
+  NoNull i = eqb (nullCount (xs i)) 0
 
-  pub nulls-yes : (s m : ℕ) {r : ℕ} → s < m → r ≡ nullCount (xs s) → (r ≡ 0 → ⊥) → anyNull m xs ≡ true
-  nulls-yes s zero l e z = absurd (omega arith)
-  nulls-yes s (suc m) {r} l e z = go (eqb s m) refl (λ p. nulls-yes s m p e z)
+  pub nulls-no : (s : ℕ) {r : ℕ} → keeps false s xs ≡ false → r ≡ nullCount (xs s) → r ≡ 0 → keeps false (suc s) xs ≡ false
+  nulls-no s {r} h e z = go (every NoNull s) (NoNull s) h (eq-eqb (nullCount (xs s)) 0 (sym e ∙ z))
     where
-      or-true : (a : Bool) → a || true ≡ true
-      or-true true = refl
-      or-true false = refl
+      go : (a b : Bool) → not a ≡ false → b ≡ true → not (a && b) ≡ false
+      go true b f g = ap not g
+      go false b f g = f
 
-      go : (b : Bool) → eqb s m ≡ b → (s < m → anyNull m xs ≡ true) → anyNull (suc m) xs ≡ true
-      go true q f =
-          let p : s ≡ m = eqb-true s m q in
-          let g : ltb 0 (nullCount (xs s)) ≡ true = rw (← e) (lt-ltb 0 r (omega (arith, z))) in
-          let k : ltb 0 (nullCount (xs m)) ≡ true = rw p at g in
-          rw k (or-true (anyNull m xs))
-      go false q f = rw (f (omega (arith, eqb-false s m q)))
+  pub nulls-yes : (s m : ℕ) {r : ℕ} → s < m → r ≡ nullCount (xs s) → (r ≡ 0 → ⊥) → keeps false m xs ≡ true
+  nulls-yes s m l e z = ap not (every-false NoNull m s l (ne-eqb (nullCount (xs s)) 0 (λ q. z (e ∙ q))))
 
 module _ {P : Type 0} (ds : ℕ → Dictionary P) where
   pub share-more : (s : ℕ) → shared (suc s) ds ≡ true → ptrEq (ds s) (ds (suc s)) ≡ true → shared (suc (suc s)) ds ≡ true

@@ -1,17 +1,18 @@
 -- The tests of an opening over the tables are those over the typed columns: they look at lengths, offsets, validity and where dictionaries begin.
 -- Assumes nothing.
 use mathlib.Core.Path.{_≡_, refl, ap, ap₂}
-use mathlib.Core.Bool.{Bool, true, false, cond, _&&_, _||_, false≢true}
+use mathlib.Core.Bool.{Bool, true, false, not, cond, _&&_, _||_, false≢true}
 use mathlib.Core.Option.{Option, none, some}
 use mathlib.Core.List.{List}
 use Prim.Native.Nat.{ℕ, zero, suc, _+_, _<_, _^_}
+use lib.Dec.{eqb}
 use Rattle.columnar.specs.Types.{Number, Plain, fixed, string, Ty, tDictionary}
 use Rattle.columnar.specs.Array.{Array, nullCount}
 use Rattle.columnar.specs.Plain.{PlainBody}
 use Rattle.columnar.specs.Dictionary.{Dictionary}
 use Rattle.columnar.specs.Reading.{Column}
-use Rattle.columnar.specs.Test.{maskTest}
-use Rattle.model.specs.Opening.{anyNull, keeps, ptrEq, shared, entriesBefore, startOfKeys}
+use Rattle.columnar.specs.Test.{every, maskTest}
+use Rattle.model.specs.Opening.{keeps, ptrEq, shared, entriesBefore, startOfKeys}
 use Rattle.array_data.specs.Tables.{Tables, lengthOf, offsetOf, validOf}
 use Rattle.array_data.specs.Typed.{Tree, tablesFrom, starts, bodyOf, columnOf}
 use Rattle.array_data.specs.lent_tables.Lent.{tables, maskOf}
@@ -20,7 +21,8 @@ use Rattle.array_data.specs.Sources.{firstOf}
 use Rattle.plan.proofs.dictionaries.Laws.{length-from, offset-from, place-from}
 use Rattle.plan.proofs.dictionaries.Keys.{entries-same}
 
-pub null-same : {B C : Type 0} (xs : ℕ → Array B) (ys : ℕ → Array C) → ((s : ℕ) → nullCount (xs s) ≡ nullCount (ys s)) → (m : ℕ) → anyNull m xs ≡ anyNull m ys
+pub null-same : {B C : Type 0} (xs : ℕ → Array B) (ys : ℕ → Array C) → ((s : ℕ) → nullCount (xs s) ≡ nullCount (ys s)) → (m : ℕ)
+    → every (λ i. eqb (nullCount (xs i)) 0) m ≡ every (λ i. eqb (nullCount (ys i)) 0) m
 null-same xs ys h zero = refl
 null-same xs ys h (suc m) = rw (null-same xs ys h m, h m)
 
@@ -48,11 +50,8 @@ module _ (t : Tree) (x : Tables) (sources : List ℕ) where
   abbrev pub columnAt : (u : Ty) → ℕ → ℕ → Column u
   columnAt u i s = columnOf t (tablesFrom x (firstOf sources s)) u i
 
-  pub null-typed : (u : Ty) (i m : ℕ) → anyNull m (columnAt u i) ≡ anyNull m (arrayAt (tables (x .lengths) (x .places) (x .body)) sources i)
-  null-typed u i m = null-same (columnAt u i) (arrayAt (tables (x .lengths) (x .places) (x .body)) sources i) (λ s. refl) m
-
   pub keeps-typed : (above : Bool) (u : Ty) (i m : ℕ) → keeps above m (columnAt u i) ≡ keeps above m (arrayAt (tables (x .lengths) (x .places) (x .body)) sources i)
-  keeps-typed above u i m = ap (above ||_) (null-typed u i m)
+  keeps-typed above u i m = ap (λ b. above || not b) (null-same (columnAt u i) (arrayAt (tables (x .lengths) (x .places) (x .body)) sources i) (λ s. refl) m)
 
   -- a dictionary node: its values are the next node
   abbrev pub dictionaryAt : (k : Number) (p : Plain) → ℕ → ℕ → Dictionary (PlainBody p)

@@ -16,7 +16,8 @@ use Rattle.columnar.specs.Reading.{Body, Column}
 use Rattle.columnar.proofs.Test.{test-complete}
 use Rattle.array_data.specs.Tables.{Tables, place, held, inBody, validIn}
 use Rattle.array_data.specs.Rules.{oneIn, twoIn, buffersIn}
-use Rattle.array_data.specs.Typed.{Tree, MeansPlain, Means, sourceRule, placedAs, placed}
+use Rattle.array_data.proofs.type_tree.ByKind.{placed-as}
+use Rattle.array_data.specs.Typed.{Tree, MeansPlain, Means, sourceRule, placed}
 use Rattle.schema.specs.Tree.{ceilings, typed}
 use Rattle.array_data.specs.type_tree.Lent.{treeOf, typeOf}
 use Rattle.array_data.proofs.type_tree.Source.{lent-obeys}
@@ -158,9 +159,9 @@ module _ (x : Lent) (buffers : List ℕ) (tree : Tree) (root : Ty) (m : ℕ) (co
 
     kept-placed : (p : Plain) (b : PlainBody p) → validIn Y i ≡ true → LentPlain (joinOf x 0) p i b → MeansPlain tree p i → T (placed tree Y i)
     kept-placed (fixed n) b v h mn =
-        subst (λ k. T (placedAs tree Y k i)) (sym (mn .1)) (holds (one-in i l v (rw (kept-place 3 (omega arith) (omega arith), kept-place 4 (omega arith) (omega arith)) (in-source _ _ (h .inside)))))
+        placed-as tree Y i (mn .1) (holds (one-in i l v (rw (kept-place 3 (omega arith) (omega arith), kept-place 4 (omega arith) (omega arith)) (in-source _ _ (h .inside)))))
     kept-placed (string w) b v h mn =
-        subst (λ k. T (placedAs tree Y k i)) (sym (mn .1))
+        placed-as tree Y i (mn .1)
         (holds
         (two-in i l (one-in i l v (rw (kept-place 3 (omega arith) (omega arith), kept-place 4 (omega arith) (omega arith)) (in-source _ _ (h .0 .inside))))
         (rw (kept-place 5 (omega arith) (omega arith), kept-place 6 (omega arith) (omega arith)) (in-source _ _ (h .1 .inside)))))
@@ -168,18 +169,18 @@ module _ (x : Lent) (buffers : List ℕ) (tree : Tree) (root : Ty) (m : ℕ) (co
   -- ---- all nodes
 
   plain-placed : (p : Plain) (i : ℕ) → i < nodesOf (x .plan) → copied (x .plan) i ≡ true → MeansPlain tree p i → T (placed tree Y i)
-  plain-placed (fixed n) i l c mn = subst (λ k. T (placedAs tree Y k i)) (sym (mn .1)) (holds (copied-one i l c))
-  plain-placed (string w) i l c mn = subst (λ k. T (placedAs tree Y k i)) (sym (mn .1)) (holds (copied-two i l c))
+  plain-placed (fixed n) i l c mn = placed-as tree Y i (mn .1) (holds (copied-one i l c))
+  plain-placed (string w) i l c mn = placed-as tree Y i (mn .1) (holds (copied-two i l c))
 
   own-placed : (k : ℕ) (t : Ty) (i : ℕ) (ss : ℕ → Body t) → Worded (x .plan) k t i → i < nodesOf (x .plan) → copied (x .plan) i ≡ true → Means tree t i → Stands x buffers m counters μ t i ss → T (placed tree Y i)
   own-placed (suc k) (tPlain p) i ss w l c mn st = plain-placed p i l c mn
-  own-placed (suc k) tView i ss w l c mn st = subst (λ k. T (placedAs tree Y k i)) (sym (mn .1)) (holds {b = oneIn Y i && buffersIn Y i} (rw (copied-one i l c) (names-in i l c (w .2) ss st)))
-  own-placed (suc k) (tListView v t) i ss w l c mn st = subst (λ k. T (placedAs tree Y k i)) (sym (mn .0 .1)) (holds (copied-two i l c))
-  own-placed (suc k) (tList v t) i ss w l c mn st = subst (λ k. T (placedAs tree Y k i)) (sym (mn .0 .1)) (holds (copied-one i l c))
-  own-placed (suc k) (tSparse ids nullable f) i ss w l c mn st = subst (λ k. T (placedAs tree Y k i)) (sym (mn .0 .1)) (holds (copied-one i l c))
-  own-placed (suc k) (tDense ids nullable f) i ss w l c mn st = subst (λ k. T (placedAs tree Y k i)) (sym (mn .0 .1)) (holds (copied-two i l c))
-  own-placed (suc k) (tRunEnd v t) i ss w l c mn st = subst (λ k. T (placedAs tree Y k i)) (sym (mn .0 .1)) (holds {b = held Y i && validIn Y i} (rw (held-at i l) (valid-inside i l c)))
-  own-placed (suc k) (tDictionary n p) i ss w l c mn st = subst (λ k. T (placedAs tree Y k i)) (sym (mn .0 .1)) (holds (copied-one i l c))
+  own-placed (suc k) tView i ss w l c mn st = placed-as tree Y i (mn .1) (holds {b = oneIn Y i && buffersIn Y i} (rw (copied-one i l c) (names-in i l c (w .2) ss st)))
+  own-placed (suc k) (tListView v t) i ss w l c mn st = placed-as tree Y i (mn .0 .1) (holds (copied-two i l c))
+  own-placed (suc k) (tList v t) i ss w l c mn st = placed-as tree Y i (mn .0 .1) (holds (copied-one i l c))
+  own-placed (suc k) (tSparse ids nullable f) i ss w l c mn st = placed-as tree Y i (mn .0 .1) (holds (copied-one i l c))
+  own-placed (suc k) (tDense ids nullable f) i ss w l c mn st = placed-as tree Y i (mn .0 .1) (holds (copied-two i l c))
+  own-placed (suc k) (tRunEnd v t) i ss w l c mn st = placed-as tree Y i (mn .0 .1) (holds {b = held Y i && validIn Y i} (rw (held-at i l) (valid-inside i l c)))
+  own-placed (suc k) (tDictionary n p) i ss w l c mn st = placed-as tree Y i (mn .0 .1) (holds (copied-one i l c))
 
   values-placed : (p : Plain) (i : ℕ) (ds : ℕ → Dictionary (PlainBody p)) → suc i < nodesOf (x .plan) → (dictionaryOf (x .plan) i ≡ 0 → ⊥) → MeansPlain tree p (suc i) → Valued x m counters μ p i ds
       → T (placed tree Y (suc i))

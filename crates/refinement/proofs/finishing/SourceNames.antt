@@ -15,7 +15,8 @@ use Rattle.columnar.proofs.Kids.{below-from}
 use Rattle.columnar.proofs.Test.{every-out}
 use Rattle.array_data.specs.Tables.{Tables, place, dataBuffer, inBody}
 use Rattle.array_data.specs.Rules.{oneIn, buffersIn, viewRule}
-use Rattle.array_data.specs.Typed.{Tree, nodeOf, Is, viewNode, Means, tablesFrom, bodyOf, kindRule, nodeRule, sourceRule}
+use Rattle.array_data.specs.NodeKinds.{viewNode}
+use Rattle.array_data.specs.Typed.{Tree, nodeOf, Is, Means, tablesFrom, bodyOf, kindRule, nodeRule, sourceRule}
 use Rattle.array_data.specs.type_tree.Lent.{treeOf}
 use Rattle.array_data.proofs.type_tree.Same.{same-means}
 use Rattle.array_data.proofs.lent_tables.Laws.{and-left, and-right}

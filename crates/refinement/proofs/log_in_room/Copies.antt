@@ -25,6 +25,7 @@ use Rattle.refinement.proofs.log_in_room.Bytes.{bytes-encode, bytes-one
 use Rattle.refinement.proofs.log_in_room.Uses.{Uses, uses-put, uses-mask, uses-done, uses-fail, uses-cond, uses-need, uses-found, uses-next, uses-each}
 use Rattle.refinement.proofs.log_in_room.Found.{between-both, between-wide, and-first, ends-code, child-first, child-later, child-with}
 use Rattle.walk.proofs.Names.{putList, copyFields}
+use Rattle.walk.proofs.Offsets.{string-is, list-is}
 
 module _ (x : Join) (In At : ℕ → Type 0) (closed : Closed (x .plan) In At) (body : AllBelow 256 (x .body)) where
   abbrev U : ℕ → ℕ → Type 0
@@ -66,9 +67,9 @@ module _ (x : Join) (In At : ℕ → Type 0) (closed : Closed (x .plan) In At) (
       uses-extended w from n Falls c s = uses-fail U 12 c
 
       uses-string : (w slot n : ℕ) (c : List ℕ) → Second (codeOf (x .plan) i) → Uses U (copyString x i w slot n c)
-      unfolding copyString
       uses-string w slot n c s =
-          uses-cond U (eqb n 0) _ _ (λ e. uses-done U c) (λ e. uses-need U _ 12 c _ (λ f. uses-extended w (place x i 3 + w * slot) n (extended w (x .body) (place x i 3 + w * slot) n (bytes c i)) c s))
+          rw (string-is x i w slot n c)
+          (uses-cond U (eqb n 0) _ _ (λ e. uses-done U c) (λ e. uses-need U _ 12 c _ (λ f. uses-extended w (place x i 3 + w * slot) n (extended w (x .body) (place x i 3 + w * slot) n (bytes c i)) c s)))
 
   -- ---- a node with children: `walk` is the walk of the nodes below it
 
@@ -97,12 +98,12 @@ module _ (x : Join) (In At : ℕ → Type 0) (closed : Closed (x .plan) In At) (
     uses-stretch w from n Falls c h = uses-fail U 12 c
 
     uses-list : (w slot n : ℕ) (c : List ℕ) → isList (codeOf (x .plan) i) ≡ true → Uses U (copyList x walk w i slot n c)
-    unfolding copyList
     uses-list w slot n c h =
-        uses-cond U (eqb n 0) _ _ (λ e. uses-done U c)
+        rw (list-is x walk w i slot n c)
+        (uses-cond U (eqb n 0) _ _ (λ e. uses-done U c)
         (λ e. uses-need U _ 12 c _
         (λ f. uses-need U _ 12 c _
-        (λ g. uses-stretch w (place x i 3 + w * slot) n (extended w (x .body) (place x i 3 + w * slot) n (rows c (suc i))) c h)))
+        (λ g. uses-stretch w (place x i 3 + w * slot) n (extended w (x .body) (place x i 3 + w * slot) n (rows c (suc i))) c h))))
 
     uses-fields : (slot n fuel k : ℕ) (c : List ℕ) → isUnion (codeOf (x .plan) i) ≡ true → (k < endOf (x .plan) i → Child (x .plan) i k)
         → Uses U (copyFields x walk slot n (endOf (x .plan) i) fuel k c)

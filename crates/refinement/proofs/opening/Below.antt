@@ -1,15 +1,15 @@
 -- What stands below a node of a kind, and where a whole tree ends. Assumes nothing.
-use mathlib.Core.Path.{_≡_, sym, subst}
+use mathlib.Core.Path.{_≡_, sym, subst, _∙_}
 use mathlib.Core.Bool.{true, _&&_}
 use mathlib.Core.List.{List}
 use Prim.Native.Nat.{ℕ, suc}
 use lib.Dec.{leb, eqb}
 use borrow.Author.Tests.{eqb-true}
 use Rattle.columnar.specs.Types.{Number, fixed, string}
-use Rattle.schema.specs.Tree.{below, dueFrom, whole}
+use Rattle.schema.specs.Tree.{below, whole}
 use Rattle.schema.specs.Tree as schemaTree
-use Rattle.array_data.specs.Typed.{NodeKind, fixedNode, stringNode, viewNode, listViewNode, listNode, sparseNode, denseNode, runEndNode, dictionaryNode}
-use Rattle.array_data.specs.type_tree.Lent.{kindAt}
+use Rattle.schema.proofs.Due.{dueFrom, whole-is}
+use Rattle.array_data.specs.NodeKinds.{NodeKind, fixedNode, stringNode, viewNode, listViewNode, listNode, sparseNode, denseNode, runEndNode, dictionaryNode, kindAt}
 use Rattle.array_data.proofs.type_tree.Ids.{both}
 use Rattle.array_data.proofs.type_tree.Shaped.{Shaped, of-plain, of-view, of-list, of-lists, of-sparse, of-dense, of-run, of-dictionary}
 use Rattle.walk.specs.State.{endOf}
@@ -45,6 +45,5 @@ module _ (formats schema : List ℕ) (first i : ℕ) where
   next-of (of-dictionary m q e z e1 z1 g d) = subst Next (sym e) (z, z1)
 
 pub whole-end : (schema : List ℕ) (first n : ℕ) → whole schema first n ≡ true → schemaTree.endOf schema first n 0 ≡ n
-unfolding whole
 whole-end schema first n w =
-    eqb-true (schemaTree.endOf schema first n 0) n (both (leb 1 n && eqb (dueFrom schema first n 1 0) 0) (eqb (schemaTree.endOf schema first n 0) n) w .1)
+    eqb-true (schemaTree.endOf schema first n 0) n (both (leb 1 n && eqb (dueFrom schema first n 1 0) 0) (eqb (schemaTree.endOf schema first n 0) n) (sym (whole-is schema first n) ∙ w) .1)

@@ -7,7 +7,7 @@ use native.Mathlib.Decide.{decLt}
 use native.Mathlib.Omega.{arith}
 use lib.Dec.{ltb}
 use borrow.Author.Tests.{ltb-true}
-use Rattle.columnar.specs.Types.{Number, i8, u8, i16, u16, i32, u32, i64, u64, f32, f64, limit, Ty, tPlain, tView, tListView, tList, tSparse, tDense, tRunEnd, tDictionary}
+use Rattle.columnar.specs.Types.{Number, int, uint, w1, w2, w4, w8, f32, f64, limit, Ty, tPlain, tView, tListView, tList, tSparse, tDense, tRunEnd, tDictionary}
 use Rattle.columnar.specs.Dictionary.{Dictionary}
 use Rattle.columnar.specs.Reading.{Body, Column}
 use Rattle.columnar.specs.Kids.{kidAt, nodesDown}
@@ -86,14 +86,14 @@ then-guard : {A : Type 0} (a : Try A) (b : Bool) (g : ℕ) → then a (λ v. gua
 then-guard a b g e = guard-done b g (done (tt {0})) (tt {0}) (then-done a (λ v. guard b g (done (tt {0}))) (tt {0}) e .1 .1) .0
 
 limit-le : (k : Number) → limit k ≤ 18446744073709551616
-limit-le i8 = omega arith
-limit-le u8 = omega arith
-limit-le i16 = omega arith
-limit-le u16 = omega arith
-limit-le i32 = omega arith
-limit-le u32 = omega arith
-limit-le i64 = omega arith
-limit-le u64 = omega arith
+limit-le (int w1) = omega arith
+limit-le (uint w1) = omega arith
+limit-le (int w2) = omega arith
+limit-le (uint w2) = omega arith
+limit-le (int w4) = omega arith
+limit-le (uint w4) = omega arith
+limit-le (int w8) = omega arith
+limit-le (uint w8) = omega arith
 limit-le f32 = omega arith
 limit-le f64 = omega arith
 

@@ -15,8 +15,7 @@ use Rattle.schema.proofs.Trees.{end-inside, end-after, child-inside, children-e
 use Rattle.schema.proofs.Depth as depths
 use Rattle.schema.proofs.Known.{typed-whole, typed-shape, within-nodes}
 use Rattle.array_data.specs.Tables.{Tables}
-use Rattle.array_data.specs.Typed.{NodeKind, fixedNode, stringNode, viewNode, listViewNode, listNode, runEndNode, dictionaryNode}
-use Rattle.array_data.specs.type_tree.Lent.{kindAt}
+use Rattle.array_data.specs.NodeKinds.{NodeKind, fixedNode, stringNode, viewNode, listViewNode, listNode, runEndNode, dictionaryNode, kindAt}
 use Rattle.array_data.proofs.type_tree.Ids.{both}
 use Rattle.array_data.proofs.type_tree.Shaped.{shaped, at-fixed, at-keys, at-string, at-view, at-list, at-lists, at-run}
 use Rattle.array_data.proofs.type_tree.Lent.{first-child, second-child, some-node}

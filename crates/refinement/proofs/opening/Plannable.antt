@@ -11,7 +11,8 @@ use Rattle.schema.specs.Tree.{sameNode, sameType}
 use Rattle.schema.proofs.Known.{within-nodes}
 use Rattle.array_data.specs.Tables.{Tables, held, validIn}
 use Rattle.array_data.specs.Rules.{oneIn, twoIn, buffersIn}
-use Rattle.array_data.specs.Typed.{NodeKind, fixedNode, stringNode, viewNode, listViewNode, listNode, sparseNode, denseNode, runEndNode, dictionaryNode, Tree, tablesFrom, kindRule, nodeRule}
+use Rattle.array_data.specs.NodeKinds.{NodeKind, fixedNode, stringNode, viewNode, listViewNode, listNode, sparseNode, denseNode, runEndNode, dictionaryNode}
+use Rattle.array_data.specs.Typed.{Tree, tablesFrom, kindRule, nodeRule, kindIn}
 use Rattle.array_data.specs.type_tree.Lent.{treeOf}
 use Rattle.array_data.proofs.type_tree.Ids.{both}
 use Rattle.array_data.specs.lent_tables.Lent.{tables, maskOf}
@@ -63,7 +64,7 @@ module _ (formats schema : List ℕ) (x : Tables) (sources : List ℕ) (low : (s
       let small : n ≤ 32 = within-nodes formats schema f n (within-low formats schema x f n w) in
       let tree = treeOf formats schema f n in
       let rule = every-at (nodeRule tree (tablesFrom x f)) n (sym (obeys-is formats schema x f n) ∙ obeys-at formats schema x sources (a .obey) s l) i p in
-      let m = masked tree (tablesFrom x f) (tree .kind i) i rule in
+      let m = masked tree (tablesFrom x f) (kindIn tree i) i rule in
       countable-at x f i (m .may) (omega (arith, low s, p, small)) (m .bits)
 
   -- SOURCES WITHOUT A GROUND CAN BE PLANNED FOR

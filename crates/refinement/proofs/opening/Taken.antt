@@ -20,8 +20,9 @@ use Rattle.model.proofs.Bits.{length-seg}
 use Rattle.schema.specs.Tree.{codeOf, ceilings, typed, sameNode, sameType}
 use Rattle.schema.proofs.Known.{every-at, within-nodes, typed-whole, typed-shape}
 use Rattle.array_data.specs.Tables.{Tables, lengthOf, offsetOf, place, part, arrayWith}
-use Rattle.array_data.specs.Typed.{Tree, viewNode, nodeOf, Means, tablesFrom, validStart, starts, plainBody, bodyOf}
-use Rattle.array_data.specs.type_tree.Lent.{kindAt, treeOf, typeOf}
+use Rattle.array_data.specs.NodeKinds.{viewNode, kindAt}
+use Rattle.array_data.specs.Typed.{Tree, nodeOf, Means, tablesFrom, validStart, starts, plainBody, bodyOf}
+use Rattle.array_data.specs.type_tree.Lent.{treeOf, typeOf}
 use Rattle.array_data.proofs.type_tree.Ids.{both}
 use Rattle.array_data.proofs.type_tree.Lent.{formed}
 use Rattle.array_data.proofs.type_tree.Same.{kind-same, same-means}

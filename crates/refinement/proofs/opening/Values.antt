@@ -13,12 +13,13 @@ use Rattle.columnar.specs.Wider.{integer}
 use Rattle.columnar.specs.Formed.{Formed}
 use Rattle.columnar.specs.Reading.{Column}
 use Rattle.schema.specs.formats.Code.{isInteger, isFixed, isString, widthOf}
-use Rattle.schema.specs.formats.Types.{numberOf}
+use Rattle.schema.specs.formats.Types.{numberOf, numberOr}
 use Rattle.schema.proofs.formats.Types.{fixed-number}
 use Rattle.schema.specs.Tree.{dictionary, codeOf, idsOf}
 use Rattle.array_data.specs.Tables.{Tables, arrayWith}
-use Rattle.array_data.specs.Typed.{NodeKind, fixedNode, dictionaryNode, Tree, nodeOf, Is, MeansPlain, Means, tablesFrom, plainBody, bodyOf}
-use Rattle.array_data.specs.type_tree.Lent.{numberOr, kindAt, treeOf, typeOf}
+use Rattle.array_data.specs.NodeKinds.{NodeKind, fixedNode, dictionaryNode, kindAt}
+use Rattle.array_data.specs.Typed.{Tree, nodeOf, Is, MeansPlain, Means, tablesFrom, plainBody, bodyOf}
+use Rattle.array_data.specs.type_tree.Lent.{treeOf, typeOf}
 use Rattle.array_data.proofs.type_tree.Lent.{formed}
 use Rattle.array_data.proofs.type_tree.Same.{same-means}
 use Rattle.array_data.proofs.type_tree.Shaped.{kind-fixed}

@@ -34,6 +34,7 @@ use Rattle.plan.specs.parts.Parts.{neededBy}
 use Rattle.refinement.proofs.orders.Buffers.{needed-fixed, needed-offsets, needed-chars, needed-views, needed-starts, needed-sizes, needed-ends}
 use Rattle.refinement.proofs.orders.Grows.{Fine, AllBehind, Behind, Adds, due, longer-same, behind-wide, longer-bytes, fine-bytes, behind-rows, behind-all, behind-offsets, behind-bits, adds-done, adds-nulls, adds-gap, adds-done-two, adds-fail, adds-never, next-never, adds-wrote, adds-cond, adds-need, adds-found, adds-next, adds-each, adds-whole, adds-close, adds-close-two}
 use Rattle.walk.proofs.Names.{putList, copyFields}
+use Rattle.walk.proofs.Offsets.{string-is, list-is}
 
 -- ---- lengths
 
@@ -154,11 +155,11 @@ module _ (x : Join) (In At : ℕ → Type 0) (closed : Closed (x .plan) In At) (
     adds-extended from _ c h falls = adds-fail S late i n 12 c (omega arith)
 
     adds-string : (slot : ℕ) (c : List ℕ) → isString (codeOf S i) ≡ true → Adds S late i n c (copyString x i (bytesOf S i) slot n c)
-    unfolding copyString
     adds-string slot c h =
-        adds-cond S late i n c (eqb n 0) _ _ (λ e. adds-done S late i n c)
+        rw (string-is x i (bytesOf S i) slot n c)
+        (adds-cond S late i n c (eqb n 0) _ _ (λ e. adds-done S late i n c)
         (λ e. adds-need S late i n _ 12 c _ (omega arith)
-        (λ f. adds-extended (place x i 3 + bytesOf S i * slot) _ c h (last-after (bytesOf S i) (x .body) (place x i 3 + bytesOf S i * slot) n (bytes c i))))
+        (λ f. adds-extended (place x i 3 + bytesOf S i * slot) _ c h (last-after (bytesOf S i) (x .body) (place x i 3 + bytesOf S i * slot) n (bytes c i)))))
 
   -- ---- a node with children: `walk` is the walk of the nodes below it
 
@@ -191,12 +192,12 @@ module _ (x : Join) (In At : ℕ → Type 0) (closed : Closed (x .plan) In At) (
     adds-put-list from Falls c h = adds-fail S late i n 12 c (omega arith)
 
     adds-list : (slot : ℕ) (c : List ℕ) → isList (codeOf S i) ≡ true → Adds S late i n c (copyList x walk (bytesOf S i) i slot n c)
-    unfolding copyList
     adds-list slot c h =
-        adds-cond S late i n c (eqb n 0) _ _ (λ e. adds-done S late i n c)
+        rw (list-is x walk (bytesOf S i) i slot n c)
+        (adds-cond S late i n c (eqb n 0) _ _ (λ e. adds-done S late i n c)
         (λ e. adds-need S late i n _ 12 c _ (omega arith)
         (λ f. adds-need S late i n _ 12 c _ (omega arith)
-        (λ g. adds-put-list _ (extended (bytesOf S i) (x .body) (place x i 3 + bytesOf S i * slot) n (rows c (suc i))) c h)))
+        (λ g. adds-put-list _ (extended (bytesOf S i) (x .body) (place x i 3 + bytesOf S i * slot) n (rows c (suc i))) c h))))
 
     adds-fields : (slot m fuel k : ℕ) (c : List ℕ) → isUnion (codeOf S i) ≡ true → (k < endOf S i → Child S i k) → Adds S late i n c (copyFields x walk slot m (endOf S i) fuel k c)
     unfolding eachField

@@ -9,7 +9,7 @@ use lib.ListN.{length}
 use lib.Dec.{leb}
 use borrow.Author.Tests.{leb-true}
 use Rattle.array_data.proofs.lent_tables.Laws.{and-left, and-right}
-use Rattle.columnar.specs.Types.{Number, i8, u8, i16, u16, i32, u32, i64, u64, f32, f64, width, fixed, string, Ty, tPlain, tView, tListView, tList, tSparse, tDense, tRunEnd, tDictionary}
+use Rattle.columnar.specs.Types.{Number, int, uint, w1, w2, w4, w8, f32, f64, width, fixed, string, Ty, tPlain, tView, tListView, tList, tSparse, tDense, tRunEnd, tDictionary}
 use Rattle.columnar.specs.Formed.{OffsetWidth, Formed}
 use Rattle.columnar.specs.Reading.{Column, masks}
 use Rattle.walk.specs.State.{codeOf, far}
@@ -27,14 +27,14 @@ le-mul l zero p = absurd (omega arith)
 le-mul l (suc w) p = rw (mul-suc l w) (omega arith)
 
 width-pos : (n : Number) → 0 < width n
-width-pos i8 = omega arith
-width-pos u8 = omega arith
-width-pos i16 = omega arith
-width-pos u16 = omega arith
-width-pos i32 = omega arith
-width-pos u32 = omega arith
-width-pos i64 = omega arith
-width-pos u64 = omega arith
+width-pos (int w1) = omega arith
+width-pos (uint w1) = omega arith
+width-pos (int w2) = omega arith
+width-pos (uint w2) = omega arith
+width-pos (int w4) = omega arith
+width-pos (uint w4) = omega arith
+width-pos (int w8) = omega arith
+width-pos (uint w8) = omega arith
 width-pos f32 = omega arith
 width-pos f64 = omega arith
 

@@ -21,6 +21,7 @@ use Rattle.refinement.proofs.walk_is_model.Counters.{rows-other, nulls-
 use Rattle.refinement.specs.log_in_room.Reach.{Child, Closed}
 use Rattle.refinement.proofs.log_in_room.Found.{between-wide, child-first, child-later, child-with, child-nullable}
 use Rattle.walk.proofs.Names.{putList, copyFields, nullFields}
+use Rattle.walk.proofs.Offsets.{string-is, list-is}
 
 module _ (j : ℕ) where
   -- node j's rows, nulls and bytes are as they were
@@ -128,10 +129,10 @@ module _ (j : ℕ) where
       still-extended w from n Falls c = still-fail 12 c
 
       still-string : (w slot n : ℕ) (c : List ℕ) → Still c (copyString x i w slot n c)
-      unfolding copyString
       still-string w slot n c =
-          still-cond c (eqb n 0) _ _ (λ e. still-done c)
-          (λ e. still-need _ 12 c _ (λ f. still-extended w (place x i 3 + w * slot) n (extended w (x .body) (place x i 3 + w * slot) n (bytes c i)) c))
+          rw (string-is x i w slot n c)
+          (still-cond c (eqb n 0) _ _ (λ e. still-done c)
+          (λ e. still-need _ 12 c _ (λ f. still-extended w (place x i 3 + w * slot) n (extended w (x .body) (place x i 3 + w * slot) n (bytes c i)) c)))
 
     module _ (walk : Walk) (below : (k a n : ℕ) (c : List ℕ) → In k → Still c (walk k a n c)) (i : ℕ) (here : In i) where
       still-list : (w slot n : ℕ) (c : List ℕ) → isListView (codeOf (x .plan) i) ≡ true → Still c (copyListView x walk w i slot n c)
@@ -152,11 +153,11 @@ module _ (j : ℕ) where
       still-stretch w from n Falls c h = still-fail 12 c
 
       still-lists : (w slot n : ℕ) (c : List ℕ) → isList (codeOf (x .plan) i) ≡ true → Still c (copyList x walk w i slot n c)
-      unfolding copyList
       still-lists w slot n c h =
-          still-cond c (eqb n 0) _ _ (λ e. still-done c)
+          rw (list-is x walk w i slot n c)
+          (still-cond c (eqb n 0) _ _ (λ e. still-done c)
           (λ e. still-need _ 12 c _
-          (λ f. still-need _ 12 c _ (λ g. still-stretch w (place x i 3 + w * slot) n (extended w (x .body) (place x i 3 + w * slot) n (rows c (suc i))) c h)))
+          (λ f. still-need _ 12 c _ (λ g. still-stretch w (place x i 3 + w * slot) n (extended w (x .body) (place x i 3 + w * slot) n (rows c (suc i))) c h))))
 
       still-fields : (slot n fuel k : ℕ) (c : List ℕ) → isUnion (codeOf (x .plan) i) ≡ true → (k < endOf (x .plan) i → Child (x .plan) i k)
           → Still c (copyFields x walk slot n (endOf (x .plan) i) fuel k c)

@@ -7,12 +7,11 @@ use Prim.Native.Nat.{ℕ, suc, _+_, _≤_}
 use native.Mathlib.Omega.{arith}
 use lib.Dec.{leb, eqb}
 use borrow.Author.Tests.{leb-true, eqb-true, eqb-false}
-use Rattle.columnar.specs.Types.{width, i8}
+use Rattle.columnar.specs.Types.{width, int, w1}
 use Rattle.schema.specs.formats.Code.{between, isInteger, isFixed, isString, isView, isListView, isList, isUnion, isRunEnd, widthOf}
-use Rattle.schema.specs.formats.Types.{numberOf}
+use Rattle.schema.specs.formats.Types.{numberOf, numberOr}
 use Rattle.schema.specs.Tree.{children, dictionary, below, bare, childForEach, codeOf, idsOf, valuesShape, endsShape, leafShape, keysShape, listShape, unionShape, runShape, shape}
-use Rattle.array_data.specs.Typed.{NodeKind, fixedNode, stringNode, viewNode, listViewNode, listNode, sparseNode, denseNode, runEndNode, dictionaryNode}
-use Rattle.array_data.specs.type_tree.Lent.{numberOr, kindOf, kindAt}
+use Rattle.array_data.specs.NodeKinds.{NodeKind, fixedNode, stringNode, viewNode, listViewNode, listNode, sparseNode, denseNode, runEndNode, dictionaryNode, kindOf, kindAt}
 use Rattle.array_data.proofs.type_tree.Ids.{both}
 use Rattle.array_data.proofs.type_tree.Shaped.{number-or, integer-fixed, five}
 use Rattle.array_data.proofs.Names.{idsOr, numberKind, unionKind}
@@ -104,7 +103,7 @@ module _ (code : ℕ) where
             → (r : Bool) → isRunEnd code ≡ r → f || s || v || l || o || u || r ≡ true
             → Coded
             (cond f (numberKind single (numberOr (numberOf code)))
-            (cond s (stringNode (widthOf code)) (cond v viewNode (cond l (listViewNode (widthOf code)) (cond o (listNode (widthOf code)) (cond u (unionKind (eqb code 21) (idsOr ids)) (cond r (runEndNode (widthOf next)) (fixedNode i8))))))))
+            (cond s (stringNode (widthOf code)) (cond v viewNode (cond l (listViewNode (widthOf code)) (cond o (listNode (widthOf code)) (cond u (unionKind (eqb code 21) (idsOr ids)) (cond r (runEndNode (widthOf next)) (fixedNode (int w1)))))))))
         go true ef s es v ev l el o eo u eu r er h = number-coded single refl ef
         go false ef true es v ev l el o eo u eu r er h = (es, refl)
         go false ef false es true ev l el o eo u eu r er h = ev

@@ -11,7 +11,9 @@ use Rattle.columnar.specs.Types.{Plain, fixed, string, Ty, tPlain, tView, tList
 use Rattle.columnar.proofs.Test.{every-out}
 use Rattle.array_data.specs.Tables.{Tables, lengthOf, offsetOf, place, validOf, firstBuffer, secondBuffer, arrayWith, held, inBody, validIn}
 use Rattle.array_data.specs.Rules.{oneIn, twoIn, buffersIn}
-use Rattle.array_data.specs.Typed.{NodeKind, fixedNode, stringNode, viewNode, listViewNode, listNode, sparseNode, denseNode, runEndNode, dictionaryNode, Tree, nodeOf, Is, MeansPlain, Means, tablesFrom, plainBody, bodyOf, columnOf, kindRule, nodeRule, sourceRule, placedAs}
+use Rattle.array_data.proofs.type_tree.ByKind.{placedAs}
+use Rattle.array_data.specs.NodeKinds.{NodeKind, fixedNode, stringNode, viewNode, listViewNode, listNode, sparseNode, denseNode, runEndNode, dictionaryNode}
+use Rattle.array_data.specs.Typed.{Tree, nodeOf, Is, MeansPlain, Means, tablesFrom, plainBody, bodyOf, columnOf, kindRule, nodeRule, sourceRule}
 use Rattle.plan.proofs.dictionaries.Laws.{length-from, offset-from, place-from}
 use Rattle.walk.specs.State.{Join, far}
 use Rattle.refinement.specs.walk_is_model.Holds.{childOf}

@@ -11,14 +11,14 @@ use Rattle.schema.specs.Tree.{endOf, sameType}
 use Rattle.schema.proofs.Laws.{end-last}
 use Rattle.schema.proofs.Known.{same-size, same-node}
 use Rattle.array_data.specs.Tables.{Tables, firstBuffer, secondBuffer, arrayWith}
-use Rattle.array_data.specs.Typed.{Tree, childNode, fieldOf, nodeOf, bodyOf, columnOf}
+use Rattle.array_data.specs.Typed.{Tree, childNode, fieldOf, nodeOf, bodyOf, columnOf, subtreeEnd}
 use Rattle.array_data.specs.type_tree.Lent.{treeOf}
 use Rattle.array_data.proofs.type_tree.Same.{end-same}
 
-module _ (t t′ : Tree) (ends : (i : ℕ) → t .end i ≡ t′ .end i) (x : Tables) where
+module _ (t t′ : Tree) (ends : (i : ℕ) → subtreeEnd t i ≡ subtreeEnd t′ i) (x : Tables) where
   child-at : (i j : ℕ) → childNode t i j ≡ childNode t′ i j
   child-at i zero = refl
-  child-at i (suc j) = ends (childNode t i j) ∙ ap (t′ .end) (child-at i j)
+  child-at i (suc j) = ends (childNode t i j) ∙ ap (subtreeEnd t′) (child-at i j)
 
   array-as : (u : Ty) (i k : ℕ) → i ≡ k → bodyOf t x u k ≡ bodyOf t′ x u k → columnOf t x u i ≡ columnOf t′ x u k
   array-as u i k e h = ap (λ z. columnOf t x u z) e ∙ ap (λ b. arrayWith x b k) h

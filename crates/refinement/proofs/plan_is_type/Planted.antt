@@ -14,8 +14,9 @@ use Rattle.schema.specs.Tree.{flag, children, dictionary, below, endOf, childAt
 use Rattle.schema.proofs.Trees.{child-inside, children-end, end-after, end-inside}
 use Rattle.schema.proofs.Depth.{nested, child-before}
 use Rattle.schema.proofs.Known.{typed-whole, typed-shape, within-nodes, within-fields}
-use Rattle.array_data.specs.Typed.{NodeKind, fixedNode, stringNode, viewNode, listViewNode, listNode, sparseNode, denseNode, runEndNode, dictionaryNode, fieldOf, nodeOf}
-use Rattle.array_data.specs.type_tree.Lent.{kindAt, treeOf}
+use Rattle.array_data.specs.NodeKinds.{NodeKind, fixedNode, stringNode, viewNode, listViewNode, listNode, sparseNode, denseNode, runEndNode, dictionaryNode, kindAt}
+use Rattle.array_data.specs.Typed.{fieldOf, nodeOf, nullableIn}
+use Rattle.array_data.specs.type_tree.Lent.{treeOf}
 use Rattle.array_data.proofs.type_tree.Ids.{cond-yes, cond-no, field-in}
 use Rattle.array_data.proofs.type_tree.Shaped.{Shaped, of-plain, of-view, of-list, of-lists, of-sparse, of-dense, of-run, of-dictionary, shaped}
 use Rattle.array_data.proofs.type_tree.Lent.{child-same, first-child}
@@ -143,7 +144,7 @@ module _ (formats schema : List ℕ) (first n : ℕ) (plan : List ℕ)
     -- the fields from child number a on, whose ids are cs
     fields-from : (kid : ℕ → ℕ → Type 0) → ((e : ℕ) → List·Memᴰ e ids → kid e (at i (fieldOf ids e))) → (cs : List ℕ) (a : ℕ) → a + length cs ≡ below schema first i → Ids cs
         → ((e : ℕ) → List·Memᴰ e cs → List·Memᴰ e ids × (fieldOf ids e ≡ a + fieldOf cs e))
-        → Fields plan kid (λ e. treeOf formats schema first n .nullable (nodeOf (treeOf formats schema first n) i ids e)) (Rattle.walk.specs.State.endOf plan i) cs (at i a)
+        → Fields plan kid (λ e. nullableIn (treeOf formats schema first n) (nodeOf (treeOf formats schema first n) i ids e)) (Rattle.walk.specs.State.endOf plan i) cs (at i a)
     unfolding childAt
     fields-from kid g [] a z d f =
         let e : a ≡ below schema first i = omega arith in
@@ -170,7 +171,7 @@ module _ (formats schema : List ℕ) (first n : ℕ) (plan : List ℕ)
 
     -- THE FIELDS of a union, each where it should be
     pub fields : (kid : ℕ → ℕ → Type 0) → ((e : ℕ) → List·Memᴰ e ids → kid e (at i (fieldOf ids e)))
-        → Fields plan kid (λ e. treeOf formats schema first n .nullable (nodeOf (treeOf formats schema first n) i ids e)) (Rattle.walk.specs.State.endOf plan i) ids (suc i)
+        → Fields plan kid (λ e. nullableIn (treeOf formats schema first n) (nodeOf (treeOf formats schema first n) i ids e)) (Rattle.walk.specs.State.endOf plan i) ids (suc i)
     fields kid g =
         subst (Fields plan kid _ (Rattle.walk.specs.State.endOf plan i) ids) (first-child formats schema first n i)
         (fields-from kid g ids 0 (omega (arith, parts .0)) (parts .1) (λ e q. (q, omega arith)))

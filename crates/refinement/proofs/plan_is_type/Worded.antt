@@ -14,8 +14,10 @@ use Rattle.schema.specs.Tree.{dictionary, below, endOf, childAt, depth, codeOf,
 use Rattle.schema.proofs.Trees.{child-inside, children-end, end-after}
 use Rattle.schema.proofs.Depth.{child-depth}
 use Rattle.schema.proofs.Known.{typed-whole, typed-shape, within-depth}
-use Rattle.array_data.specs.Typed.{NodeKind, Tree, fieldOf, nodeOf}
-use Rattle.array_data.specs.type_tree.Lent.{kindAt, treeOf, tyAs, tyOf, typeOf}
+use Rattle.array_data.proofs.type_tree.ByKind.{tyAs, type-by}
+use Rattle.array_data.specs.NodeKinds.{NodeKind, kindAt}
+use Rattle.array_data.specs.Typed.{Tree, fieldOf, nodeOf}
+use Rattle.array_data.specs.type_tree.Lent.{treeOf, tyOf, typeOf}
 use Rattle.array_data.proofs.type_tree.Ids.{field-in}
 use Rattle.array_data.proofs.type_tree.Shaped.{Shaped, of-plain, of-view, of-list, of-lists, of-sparse, of-dense, of-run, of-dictionary, shaped}
 use Rattle.array_data.proofs.type_tree.Lent.{child-same, first-child, second-child, some-node, root}
@@ -82,8 +84,8 @@ module _ (formats schema : List ℕ) (first n : ℕ) (plan : List ℕ)
         subst (λ k. Worded plan f (tyOf tree f k) (childAt schema first n i (fieldOf ids e))) (child-same formats schema first n i (fieldOf ids e))
         (kid (fieldOf ids e) (omega (arith, field-in ids e q)))
 
-    worded-by : Shaped formats schema first i → ((j : ℕ) → j < below schema first i → WordedFrom f (childAt schema first n i j)) → WordedFrom (suc f) i
-    unfolding tyOf childAt
+    worded-by : Shaped formats schema first i → ((j : ℕ) → j < below schema first i → WordedFrom f (childAt schema first n i j)) → Here (kindAt formats schema first i)
+    unfolding childAt
     worded-by (of-plain (fixed m) e z d) kid =
         let k = known i l _ e in
         subst Here (sym e) (small, spans i l, single z, (as-code isFixed i l (k .0), as-bytes i (width m) l (k .1)))
@@ -142,8 +144,9 @@ module _ (formats schema : List ℕ) (first n : ℕ) (plan : List ℕ)
   worded-at zero i l h = absurd (omega (arith, within-depth formats schema first n c i l))
   worded-at (suc f) i l h =
       let w = typed-whole formats schema first n t in
-      worded-by f i l (shaped formats schema first i (typed-shape formats schema first n t i l))
-      (λ j b. worded-at f (childAt schema first n i j) (child-inside schema first n w i j l b) (omega (arith, child-depth schema first n w i j l b)))
+      subst (λ u. Worded plan (suc f) u i) (sym (type-by tree f i))
+      (worded-by f i l (shaped formats schema first i (typed-shape formats schema first n t i l))
+      (λ j b. worded-at f (childAt schema first n i j) (child-inside schema first n w i j l b) (omega (arith, child-depth schema first n w i j l b))))
 
   -- THE STATE STANDS FOR THE TYPE
   pub planted-worded : Worded plan 8 (typeOf formats schema first n) 0

@@ -40,6 +40,7 @@ use Rattle.refinement.proofs.walk_is_model.Parts.{rows-in}
 use Rattle.refinement.proofs.walk_is_model.Offsets.{Rows, rows-of, first-is, first-below, never-falls, last-is, new-are}
 use Rattle.refinement.proofs.walk_is_model.Entries.{repeated-pieces}
 use Rattle.walk.proofs.Names.{putList}
+use Rattle.walk.proofs.Offsets.{list-is}
 
 -- the first buffer of a node written, then what is below it
 put-kept : (i : ℕ) (ps : List ℕ) (μ : Memory) (e : ℕ) (c c′ : List ℕ) (ν : Memory) → i < e → Kept (suc i) e c c′ (putIn i 1 ps μ) ν → DataKept i e c c′ μ ν
@@ -94,8 +95,7 @@ module _ (x : Join) (k w : ℕ) (t : Ty) (i m : ℕ) (ss : ℕ → Column (tList
       ≡ need (ltb (suc i) 32) 12 c
       (need (rowsIn x (place x i 3) w slot (suc (suc n))) 12 c
       (putList x inner w i (place x i 3 + w * slot) (suc n) (extended w (x .body) (place x i 3 + w * slot) (suc n) (rows c (suc i))) c))
-  unfolding copyList
-  some-is inner slot n c = rw (ne-eqb (suc n) 0 (λ e. omega (arith, e)))
+  some-is inner slot n c = list-is x inner w i slot (suc n) c ∙ rw (ne-eqb (suc n) 0 (λ e. omega (arith, e)))
 
   null-is : (inner : NullWalk) (n : ℕ) (c : List ℕ) → nullData x inner (codeOf (x .plan) i) i n c
       ≡ need (ltb (suc i) 32) 12 c (wrote (put i 1 (suc (rows c i) * w) (repeated w (rows c (suc i)) n)) c)

@@ -9,7 +9,7 @@ use lib.ListN.{length, take, drop, length-drop}
 use lib.Seq.{length-take-le, drop-drop}
 use borrow.Author.Tests.{le-leb}
 use Rattle.number.specs.Number.{number, entry}
-use Rattle.columnar.specs.Types.{Number, width, i8, u8, i16, u16, i32, u32, i64, u64, f32, f64}
+use Rattle.columnar.specs.Types.{Number, width, int, uint, w1, w2, w4, w8, f32, f64}
 use Rattle.columnar.specs.Array.{item}
 use Rattle.columnar.proofs.Items.{number-take}
 use Rattle.model.proofs.Pieces.{cut-cut}
@@ -44,13 +44,13 @@ rows-in x at size s w slot n p g =
     le-leb (at + w * (slot + n)) (length (x .body)) (omega (arith, p .inside))
 
 pub width-above : (n : Number) → 0 < width n
-width-above i8 = omega arith
-width-above u8 = omega arith
-width-above i16 = omega arith
-width-above u16 = omega arith
-width-above i32 = omega arith
-width-above u32 = omega arith
-width-above i64 = omega arith
-width-above u64 = omega arith
+width-above (int w1) = omega arith
+width-above (uint w1) = omega arith
+width-above (int w2) = omega arith
+width-above (uint w2) = omega arith
+width-above (int w4) = omega arith
+width-above (uint w4) = omega arith
+width-above (int w8) = omega arith
+width-above (uint w8) = omega arith
 width-above f32 = omega arith
 width-above f64 = omega arith

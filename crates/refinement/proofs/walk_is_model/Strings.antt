@@ -23,11 +23,11 @@ use Rattle.model.specs.Try.{done, then, guard}
 use Rattle.model.specs.Primitive.{plainExtend}
 use Rattle.model.proofs.TextLaw.{new-offsets}
 use Rattle.model.proofs.Nodes.{TextFine}
-use Rattle.walk.specs.State.{Join, codeOf, endOf, rows, bytes, setBytes, place, rowsIn}
+use Rattle.walk.specs.State.{Join, codeOf, endOf, bytesOf, rows, bytes, setBytes, place, rowsIn}
 use Rattle.walk.specs.Log.{put, fail}
 use Rattle.walk.specs.Copy.{Walk, copyData}
 use Rattle.walk.specs.Nulls.{NullWalk, nullData}
-use Rattle.walk.specs.Leaves.{copyString, putString, putExtended, nullString}
+use Rattle.walk.specs.Leaves.{putString, putExtended, nullString}
 use Rattle.refinement.specs.walk_is_model.Memory.{Memory, putIn}
 use Rattle.refinement.specs.walk_is_model.Holds.{HoldsPlain}
 use Rattle.refinement.specs.walk_is_model.Lent.{First, Second}
@@ -39,6 +39,7 @@ use Rattle.refinement.proofs.walk_is_model.Parts.{part-length, part-cut
 use Rattle.refinement.proofs.walk_is_model.Offsets.{Rows, rows-of, first-is, first-below, never-falls, last-is, new-are}
 use Rattle.refinement.proofs.walk_is_model.Entries.{repeated-pieces}
 use Rattle.refinement.proofs.walk_is_model.Writes.{goes-write, put-own, put-beside, data-put, data-none, data-then, data-bytes}
+use Rattle.walk.proofs.Offsets.{string-is}
 
 module _ (x : Join) (i w slot n : ℕ) (s : Text) (p : First x i (s .offsets)) (p2 : Second x i (s .chars)) (r : Rows w (s .offsets) (length (s .chars)) slot n) where
   abbrev o : ℕ → ℕ
@@ -118,15 +119,15 @@ none-goes x i e w slot s d l c μ h =
 
 pub string-copies : (x : Join) (inner : Walk) (k w i m : ℕ) (ss : ℕ → Column (tPlain (string w))) → Given x (suc k) (tPlain (string w)) i m ss
     → CopiesData x inner (tPlain (string w)) i m ss
-unfolding copyData copyString
+unfolding copyData
 string-copies x inner k w i m ss g slot zero d c μ lo hi f small long e h =
-    rw (string-apart (codeOf (x .plan) i) (g .worded .3 .0), g .worded .3 .0)
+    rw (string-apart (codeOf (x .plan) i) (g .worded .3 .0), g .worded .3 .0, string-is x i (bytesOf (x .plan) i) slot 0 c)
     (none-goes x i (endOf (x .plan) i) w slot (ss (x .source) .body) (d .«data») (d .len) c μ h)
 string-copies x inner k w i m ss g slot (suc n) d c μ lo hi f small long e h =
     let s = ss (x .source) .body in
     let p = g .lent .body-is in
     let r = rows-of w (s .offsets) (length (s .chars)) (ss (x .source) .off) (ss (x .source) .len) slot (suc n) (g .obey (x .source) (g .known) .slots) lo hi (omega arith) in
-    rw (string-apart (codeOf (x .plan) i) (g .worded .3 .0), g .worded .3 .0, g .worded .3 .1, ne-eqb (suc n) 0 (λ t. omega (arith, t)))
+    rw (string-apart (codeOf (x .plan) i) (g .worded .3 .0), g .worded .3 .0, g .worded .3 .1, string-is x i w slot (suc n) c, ne-eqb (suc n) 0 (λ t. omega (arith, t)))
     (goes-need (rowsIn x (place x i 3) w slot (suc (suc n))) 12 c
     (rows-in x (place x i 3) (place x i 4) (s .offsets) w slot (suc (suc n)) (p .0) (r .hold))
     (rows-go x i w slot (suc n) s (p .0) (p .1) r (d .«data») (d .len) (f .data-fine) c long (g .worded .0) (endOf (x .plan) i) (g .worded .1) μ e h))

@@ -1,7 +1,7 @@
 -- What finishing comes to on lent memory: the tables of the finished array (docs/FORMAT.md), which can be lent again. Assumes nothing.
 -- `into_builder` of arrow-data 60.1.0 src/transform/mod.rs, Apache-2.0; see NOTICE.
 use mathlib.Core.Bool.{Bool, true, not, cond, _&&_, _||_}
-use mathlib.Core.List.{List, [], _++_}
+use mathlib.Core.List.{List, [], _∷_, _++_}
 use Prim.Native.Nat.{ℕ, zero, suc, _+_, _*_, _/_, _%_, min}
 use lib.ListN.{length, getD}
 use lib.Dec.{leb, ltb, eqb}
@@ -86,12 +86,6 @@ module _ (x : Lent) (buffers counters room : List ℕ) (base : ℕ) where
 
   -- ---- places
 
-  -- "drop validity if no bit is 0, always for unions and run-end nodes"
-  abbrev pub validPlace : ℕ → ℕ → ℕ
-  validPlace i zero = 1
-  validPlace i (suc zero) = base + startOf (x .plan) (x .parts) i 0
-  validPlace i (suc (suc j)) = (rows counters i + 7) / 8
-
   -- where buffer b of node i begins, and its bytes; 0 where there is none
   abbrev pub bufferStart : ℕ → ℕ → ℕ
   bufferStart i b = cond (hasPart (x .plan) i b) (base + startOf (x .plan) (x .parts) i b) 0
@@ -99,15 +93,13 @@ module _ (x : Lent) (buffers counters room : List ℕ) (base : ℕ) where
   abbrev pub bufferSize : ℕ → ℕ → ℕ
   bufferSize i b = cond (hasPart (x .plan) i b) (needed (x .plan) counters i b) 0
 
-  -- number j of the nine of node i, whose buffers are copied
+  -- number j of the nine of node i, whose buffers are copied: "drop validity if no bit is 0, always for unions and run-end nodes"
   unfoldable pub copiedPlace : ℕ → ℕ → ℕ
   copiedPlace i j =
-      cond (ltb j 3) (cond (eqb (zerosAt i) 0) 0 (validPlace i j))
-      (cond (eqb j 3) (bufferStart i 1)
-      (cond (eqb j 4) (bufferSize i 1)
-      (cond (eqb j 5) (bufferStart i 2)
-      (cond (eqb j 6) (bufferSize i 2)
-      (cond (isView (codeOf (x .plan) i)) (cond (eqb j 7) (buffersBefore i) (buffersOf i sources)) 0)))))
+      let full = eqb (zerosAt i) 0 in
+      let view = isView (codeOf (x .plan) i) in
+      let valid : List ℕ = cond full 0 1 ∷ cond full 0 (base + startOf (x .plan) (x .parts) i 0) ∷ cond full 0 ((rows counters i + 7) / 8) ∷ [] in
+      getD (valid ++ bufferStart i 1 ∷ bufferSize i 1 ∷ bufferStart i 2 ∷ bufferSize i 2 ∷ cond view (buffersBefore i) 0 ∷ cond view (buffersOf i sources) 0 ∷ []) j 0
 
   -- "View data buffers and a kept dictionary are not copied ..: the finished array names their places in the source body"; its validity
   -- too is dropped if no bit is 0

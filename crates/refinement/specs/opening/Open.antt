@@ -9,9 +9,8 @@ use Rattle.number.specs.Number.{encode}
 use Rattle.columnar.specs.Types.{Number, keyFits}
 use Rattle.columnar.specs.Test.{every}
 use Rattle.schema.specs.formats.Code.{isInteger, isRunEnd}
-use Rattle.schema.specs.formats.Types.{numberOf}
+use Rattle.schema.specs.formats.Types.{numberOf, numberOr}
 use Rattle.array_data.specs.Tables.{Tables}
-use Rattle.array_data.specs.type_tree.Lent.{numberOr}
 use Rattle.walk.specs.State.{word, codeOf, dictionaryOf, bytesOf, baseOf, setBytes, lengthOf, top}
 use Rattle.walk.specs.Log.{Out, put, done, wrote, need, next, each, apply}
 use Rattle.walk.specs.Copy.{copyWalk}

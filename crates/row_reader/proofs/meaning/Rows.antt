@@ -25,8 +25,10 @@ use Rattle.schema.proofs.Depth.{child-depth}
 use Rattle.schema.proofs.Known.{typed-whole, within-nodes, within-depth}
 use Rattle.array_data.specs.Tables.{Tables, lengthOf, offsetOf, place, validOf, firstBuffer, secondBuffer, arrayWith, held, validIn, inBody}
 use Rattle.array_data.specs.Rules.{oneIn, buffersIn}
-use Rattle.array_data.specs.Typed.{NodeKind, fixedNode, stringNode, viewNode, listViewNode, listNode, sparseNode, denseNode, runEndNode, dictionaryNode, fieldOf, nodeOf, bodyOf, columnOf, kindRule, nodeRule, sourceRule, tablesFrom}
-use Rattle.array_data.specs.type_tree.Lent.{kindAt, treeOf, plainAs, tyAs, tyOf, typeOf}
+use Rattle.array_data.proofs.type_tree.ByKind.{plainAs, tyAs, type-by}
+use Rattle.array_data.specs.NodeKinds.{NodeKind, fixedNode, stringNode, viewNode, listViewNode, listNode, sparseNode, denseNode, runEndNode, dictionaryNode, kindAt}
+use Rattle.array_data.specs.Typed.{fieldOf, nodeOf, bodyOf, columnOf, kindRule, nodeRule, sourceRule, tablesFrom}
+use Rattle.array_data.specs.type_tree.Lent.{treeOf, tyOf, typeOf}
 use Rattle.array_data.proofs.type_tree.Ids.{field-in}
 use Rattle.array_data.proofs.type_tree.Lent.{child-same, first-child, second-child, some-node, root}
 use Rattle.array_data.proofs.type_tree.Shaped.{Shaped, of-plain, of-view, of-list, of-lists, of-sparse, of-dense, of-run, of-dictionary, plainKind}
@@ -285,10 +287,10 @@ module _ (formats schema : List ℕ) (first n : ℕ) (x : Tables) (t : typed for
 
     pub valid-shows : Source (tyOf tree (suc f) i) (column (tyOf tree (suc f) i) i)
         → Shows (tyOf tree (suc f) i) (follow (walk w x f) (stepOn w x i slot)) (slotAt (tyOf tree (suc f) i) (bodyOf tree x (tyOf tree (suc f) i) i) slot)
-    unfolding tyOf
-    valid-shows s =
-        subst (λ a. Shows (tyAs tree (tyOf tree f) (kindAt formats schema first i) i) (follow (walk w x f) a) (slotAt (tyAs tree (tyOf tree f) (kindAt formats schema first i) i) (bodyOf tree x (tyAs tree (tyOf tree f) (kindAt formats schema first i) i) i) slot)) (sym step-is)
-        (level (node-shaped formats schema first n t c i l) s)
+    valid-shows =
+        subst (λ u. Source u (column u i) → Shows u (follow (walk w x f) (stepOn w x i slot)) (slotAt u (bodyOf tree x u i) slot)) (sym (type-by tree f i))
+        (λ s. subst (λ a. Shows (tyAs tree (tyOf tree f) (kindAt formats schema first i) i) (follow (walk w x f) a) (slotAt (tyAs tree (tyOf tree f) (kindAt formats schema first i) i) (bodyOf tree x (tyAs tree (tyOf tree f) (kindAt formats schema first i) i) i) slot)) (sym step-is)
+        (level (node-shaped formats schema first n t c i l) s))
 
   -- ---- every level
 

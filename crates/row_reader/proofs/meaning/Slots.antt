@@ -12,7 +12,7 @@ use lib.Dec.{T, leb, ltb, eqb}
 use borrow.Author.Tests.{le-leb, lt-leb, leb-true, leb-false, lt-ltb, le-ltb, ltb-true, ltb-false}
 use Rattle.number.specs.Number.{number}
 use Rattle.columnar.specs.Row.{Row, null, bytes}
-use Rattle.columnar.specs.Types.{Number, i8, u8, i16, u16, i32, u32, i64, u64, f32, f64, width}
+use Rattle.columnar.specs.Types.{Number, int, uint, w1, w2, w4, w8, f32, f64, width}
 use Rattle.columnar.specs.Formed.{OffsetWidth, four, eight}
 use Rattle.columnar.specs.Array.{item, bit, ok, sight, Mask}
 use Rattle.columnar.specs.Plain.{Text, value, span, OffsetsTo, Offsets}
@@ -47,26 +47,26 @@ pub record Gives (body : List ℕ) (r : RowRead) (want : Row) : Type 0 where
 -- ---- widths
 
 pub wide : (m : Number) → 1 ≤ width m
-wide i8 = omega arith
-wide u8 = omega arith
-wide i16 = omega arith
-wide u16 = omega arith
-wide i32 = omega arith
-wide u32 = omega arith
-wide i64 = omega arith
-wide u64 = omega arith
+wide (int w1) = omega arith
+wide (uint w1) = omega arith
+wide (int w2) = omega arith
+wide (uint w2) = omega arith
+wide (int w4) = omega arith
+wide (uint w4) = omega arith
+wide (int w8) = omega arith
+wide (uint w8) = omega arith
 wide f32 = omega arith
 wide f64 = omega arith
 
 pub number-sized : (m : Number) → sized (width m) ≡ true
-number-sized i8 = refl
-number-sized u8 = refl
-number-sized i16 = refl
-number-sized u16 = refl
-number-sized i32 = refl
-number-sized u32 = refl
-number-sized i64 = refl
-number-sized u64 = refl
+number-sized (int w1) = refl
+number-sized (uint w1) = refl
+number-sized (int w2) = refl
+number-sized (uint w2) = refl
+number-sized (int w4) = refl
+number-sized (uint w4) = refl
+number-sized (int w8) = refl
+number-sized (uint w8) = refl
 number-sized f32 = refl
 number-sized f64 = refl
 

@@ -8,17 +8,16 @@ use native.Mathlib.Omega.{arith}
 use lib.ListN.{length, take, drop}
 use lib.Dec.{leb, eqb}
 use borrow.Author.Tests.{le-leb, leb-true, leb-false}
-use Rattle.columnar.specs.Types.{i8, Number, Plain, fixed, string}
+use Rattle.columnar.specs.Types.{int, w1, Number, Plain, fixed, string}
 use Rattle.schema.specs.formats.Code as code
 use Rattle.schema.specs.formats.Code.{Rule, is, begins, look, table, lastCode, isFixed, isString, isView, isListView, isList, isUnion, isSparse, isRunEnd, widthOf}
-use Rattle.schema.specs.formats.Types.{numberOf}
+use Rattle.schema.specs.formats.Types.{numberOf, numberOr}
 use Rattle.schema.specs.union_ids.Ids.{idsAt}
 use Rattle.schema.proofs.union_ids.Same.{Fine, fine}
 use Rattle.schema.specs.Tree.{field, dictionary, below, endOf, childAt, whole, codeOf, idsOf, leafShape, keysShape, listShape, unionShape, runShape, shape, ceilings, typed}
 use Rattle.schema.proofs.Trees.{child-inside}
 use Rattle.schema.proofs.Known.{typed-whole, typed-shape, within-nodes}
-use Rattle.array_data.specs.Typed.{NodeKind, fixedNode, stringNode, viewNode, listViewNode, listNode, sparseNode, denseNode, runEndNode, dictionaryNode}
-use Rattle.array_data.specs.type_tree.Lent.{numberOr, kindOf, kindAt}
+use Rattle.array_data.specs.NodeKinds.{NodeKind, fixedNode, stringNode, viewNode, listViewNode, listNode, sparseNode, denseNode, runEndNode, dictionaryNode, kindOf, kindAt}
 use Rattle.array_data.proofs.type_tree.Lent.{first-child}
 use Rattle.array_data.proofs.type_tree.Shaped.{Shaped, of-plain, of-view, of-list, of-lists, of-sparse, of-dense, of-run, of-dictionary, shaped, at-run, plainKind}
 use Rattle.array_data.specs.node_words.Words.{word}
@@ -78,8 +77,8 @@ plain-kind : (c : ℕ) (s : Bool) (o : Option (List ℕ)) (next next′ : ℕ) �
 plain-kind c s o next next′ h = go (isFixed c) (isString c) (isView c) (isListView c) (isList c) (isUnion c) (isRunEnd c) h
   where
     go : (f g v l m u r : Bool) → (r ≡ true → widthOf next′ ≡ widthOf next)
-        → cond f (numberKind s (numberOr (numberOf c))) (cond g (stringNode (widthOf c)) (cond v viewNode (cond l (listViewNode (widthOf c)) (cond m (listNode (widthOf c)) (cond u (unionKind (isSparse c) []) (cond r (runEndNode (widthOf next′)) (fixedNode i8)))))))
-        ≡ plainer (cond f (numberKind s (numberOr (numberOf c))) (cond g (stringNode (widthOf c)) (cond v viewNode (cond l (listViewNode (widthOf c)) (cond m (listNode (widthOf c)) (cond u (unionKind (isSparse c) (idsOr o)) (cond r (runEndNode (widthOf next)) (fixedNode i8))))))))
+        → cond f (numberKind s (numberOr (numberOf c))) (cond g (stringNode (widthOf c)) (cond v viewNode (cond l (listViewNode (widthOf c)) (cond m (listNode (widthOf c)) (cond u (unionKind (isSparse c) []) (cond r (runEndNode (widthOf next′)) (fixedNode (int w1))))))))
+        ≡ plainer (cond f (numberKind s (numberOr (numberOf c))) (cond g (stringNode (widthOf c)) (cond v viewNode (cond l (listViewNode (widthOf c)) (cond m (listNode (widthOf c)) (cond u (unionKind (isSparse c) (idsOr o)) (cond r (runEndNode (widthOf next)) (fixedNode (int w1)))))))))
     go true g v l m u r k = number-plainer s (numberOr (numberOf c))
     go false true v l m u r k = refl
     go false false true l m u r k = refl
@@ -136,7 +135,7 @@ kind-ids : (c : ℕ) (s : Bool) (o : Option (List ℕ)) (next : ℕ) (k : NodeKi
 kind-ids c s o next k e h = go (isFixed c) (isString c) (isView c) (isListView c) (isList c) (isUnion c) (isRunEnd c) e
   where
     go : (f g v l m u r : Bool)
-        → cond f (numberKind s (numberOr (numberOf c))) (cond g (stringNode (widthOf c)) (cond v viewNode (cond l (listViewNode (widthOf c)) (cond m (listNode (widthOf c)) (cond u (unionKind (isSparse c) (idsOr o)) (cond r (runEndNode (widthOf next)) (fixedNode i8)))))))
+        → cond f (numberKind s (numberOr (numberOf c))) (cond g (stringNode (widthOf c)) (cond v viewNode (cond l (listViewNode (widthOf c)) (cond m (listNode (widthOf c)) (cond u (unionKind (isSparse c) (idsOr o)) (cond r (runEndNode (widthOf next)) (fixedNode (int w1))))))))
         ≡ k → idsOr o ≡ idsIn k
     go true g v l m u r q = absurd (false≢true (sym (number-no-union s (numberOr (numberOf c))) ∙ ap isUnionKind q ∙ h))
     go false true v l m u r q = absurd (false≢true (ap isUnionKind q ∙ h))

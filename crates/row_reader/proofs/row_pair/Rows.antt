@@ -5,7 +5,7 @@ use mathlib.Core.List.{List}
 use Prim.Native.Nat.{ℕ, _+_, _<_, _^_}
 use lib.ListN.{getD}
 use Rattle.columnar.specs.Row.{Row, null}
-use Rattle.columnar.specs.Types.{Number, i8, u8, i16, u16, i32, u32, i64, u64, f32, f64, width, fixed, string, Ty, tPlain, tView, tListView, tList, tSparse, tDense, tRunEnd, tDictionary}
+use Rattle.columnar.specs.Types.{Number, int, uint, f32, f64, width, fixed, string, Ty, tPlain, tView, tListView, tList, tSparse, tDense, tRunEnd, tDictionary}
 use Rattle.columnar.specs.Array.{Array, item, ok, readWith}
 use Rattle.columnar.specs.Plain.{value, plainAt}
 use Rattle.columnar.specs.RunEnd.{endOf, firstAbove, runEndAt}
@@ -57,14 +57,8 @@ numeric (tDictionary k p) h = absurd (false≢true h)
 -- ---- their rows
 
 value-leaf : (m : Number) (p : ℕ) → isLeaf (value m p) ≡ true
-value-leaf i8 p = refl
-value-leaf u8 p = refl
-value-leaf i16 p = refl
-value-leaf u16 p = refl
-value-leaf i32 p = refl
-value-leaf u32 p = refl
-value-leaf i64 p = refl
-value-leaf u64 p = refl
+value-leaf (int s) p = refl
+value-leaf (uint s) p = refl
 value-leaf f32 p = refl
 value-leaf f64 p = refl
 

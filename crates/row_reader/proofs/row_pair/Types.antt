@@ -1,60 +1,25 @@
 -- The codes of a typed tree's nodes say whether its column is one of numbers. Assumes nothing.
 use mathlib.Core.Path.{_≡_, refl, sym, ap, subst, _∙_}
-use mathlib.Core.Bool.{Bool, true, false, cond, _&&_, false≢true, and-eq-true-iff}
-use mathlib.Core.Option.{Option}
+use mathlib.Core.Bool.{Bool, true, false, not, cond, _&&_, _||_, false≢true, and-eq-true-iff}
+use mathlib.Core.Option.{Option·getD}
 use mathlib.Core.List.{List, []}
 use Prim.Native.Nat.{ℕ, suc, _≤_, _<_}
 use native.Mathlib.Omega.{arith}
 use lib.Dec.{leb, eqb}
 use borrow.Author.Tests.{leb-true, leb-false, le-leb, lt-leb}
-use Rattle.columnar.specs.Types.{Number, i8, Plain, fixed, string, Ty}
-use Rattle.schema.specs.formats.Code.{lastCode, between, isFixed, isString, isView, isListView, isList, isUnion, isSparse, isRunEnd, widthOf}
-use Rattle.schema.specs.formats.Types.{numberOf}
-use Rattle.schema.specs.Tree.{dictionary, below, childAt, codeOf, idsOf, typed}
+use Rattle.columnar.specs.Types.{Number, int, w1, Plain, fixed, string, Ty, tPlain, tView, tListView, tList, tSparse, tDense, tRunEnd, tDictionary}
+use Rattle.schema.specs.formats.Code.{lastCode, between, isFixed, isString, isView, isListView, isList, isUnion, isRunEnd, widthOf}
+use Rattle.schema.specs.formats.Types.{numberOf, numberOr, plainOf}
+use Rattle.schema.specs.Tree.{dictionary, nullable, below, childAt, codeOf, idsOf, typed}
 use Rattle.schema.proofs.Trees.{child-inside}
 use Rattle.schema.proofs.Known.{typed-whole, typed-shape}
-use Rattle.array_data.specs.Typed.{NodeKind, fixedNode, stringNode, viewNode, listViewNode, listNode, sparseNode, denseNode, runEndNode, dictionaryNode, Tree}
-use Rattle.array_data.specs.type_tree.Lent.{numberOr, kindOf, kindAt, treeOf, tyAs, tyOf, typeOf}
+use Rattle.array_data.specs.NodeKinds.{kindAt}
+use Rattle.array_data.specs.Typed.{Tree, nodeOf}
+use Rattle.array_data.specs.type_tree.Lent.{treeOf, tyOf, typeOf}
 use Rattle.array_data.proofs.type_tree.Lent.{first-child, second-child, some-node}
 use Rattle.array_data.proofs.type_tree.Shaped.{Shaped, of-plain, of-view, of-list, of-lists, of-sparse, of-dense, of-run, of-dictionary, shaped, at-run, plainKind}
-use Rattle.array_data.proofs.Names.{idsOr, numberKind, unionKind}
 use Rattle.row_reader.specs.row_pair.Same.{numberPlain, numberType, numberNode, ofNumbers}
 use Rattle.row_reader.proofs.meaning.Words.{isRunKind, code-low, coded}
-
--- ---- kinds
-
-abbrev isNumberKind : NodeKind → Bool
-isNumberKind (fixedNode m) = true
-isNumberKind (stringNode w) = false
-isNumberKind viewNode = false
-isNumberKind (listViewNode w) = false
-isNumberKind (listNode w) = false
-isNumberKind (sparseNode ids) = false
-isNumberKind (denseNode ids) = false
-isNumberKind (runEndNode w) = false
-isNumberKind (dictionaryNode m) = false
-
-plain-by : (t : Tree) (sub : ℕ → Ty) (k : NodeKind) (i : ℕ) → numberPlain (tyAs t sub k i) ≡ isNumberKind k
-plain-by t sub (fixedNode m) i = refl
-plain-by t sub (stringNode w) i = refl
-plain-by t sub viewNode i = refl
-plain-by t sub (listViewNode w) i = refl
-plain-by t sub (listNode w) i = refl
-plain-by t sub (sparseNode ids) i = refl
-plain-by t sub (denseNode ids) i = refl
-plain-by t sub (runEndNode w) i = refl
-plain-by t sub (dictionaryNode m) i = refl
-
-type-by : (t : Tree) (sub : ℕ → Ty) (k : NodeKind) (i : ℕ) → numberType (tyAs t sub k i) ≡ cond (isRunKind k) (numberPlain (sub (suc (suc i)))) (isNumberKind k)
-type-by t sub (fixedNode m) i = refl
-type-by t sub (stringNode w) i = refl
-type-by t sub viewNode i = refl
-type-by t sub (listViewNode w) i = refl
-type-by t sub (listNode w) i = refl
-type-by t sub (sparseNode ids) i = refl
-type-by t sub (denseNode ids) i = refl
-type-by t sub (runEndNode w) i = refl
-type-by t sub (dictionaryNode m) i = refl
 
 -- ---- codes
 
@@ -66,45 +31,65 @@ above a b x h l = go (leb x b) refl
     go true e = absurd (false≢true (sym h ∙ and-eq-true-iff (leb a x) (leb x b) .1 (le-leb a x l, e)))
     go false e = omega (arith, leb-false x b e)
 
-no-run : (a b x : ℕ) → between a b x ≡ true → b < 23 → isRunEnd x ≡ false
-no-run a b x h l =
+-- one in a .. b is in no range behind it
+no-other : (a b c d x : ℕ) → between a b x ≡ true → b < c → between c d x ≡ false
+no-other a b c d x h l =
     let top = leb-true x b (and-eq-true-iff (leb a x) (leb x b) .0 h .1) in
-    rw (lt-leb 23 x (omega arith))
+    rw (lt-leb c x (omega arith))
+
+no-run : (a b x : ℕ) → between a b x ≡ true → b < 23 → isRunEnd x ≡ false
+no-run a b x h l = no-other a b 23 23 x h l
 
 and-false : (s : Bool) → false ≡ s && false
 and-false true = refl
 and-false false = refl
 
-number-said : (s : Bool) (m : Number) → (isNumberKind (numberKind s m) ≡ s && true) × (isRunKind (numberKind s m) ≡ false)
-number-said true m = (refl, refl)
-number-said false m = (refl, refl)
+-- ---- the type of a node by the tests of its code: f g v l m u r, whether it has no dictionary (z), and whether its ids are a sparse union's (s)
+module _ (z s : Bool) (key : Number) (values : Plain) (w : ℕ) (num : Number) (child : Ty) (ids : List ℕ) (flags : ℕ → Bool) (fields : ℕ → Ty) (e : ℕ) (last : Ty) where
+  abbrev typeBy : Bool → Bool → Bool → Bool → Bool → Bool → Bool → Ty
+  typeBy f g v l m u r =
+      cond (f && not z) (tDictionary key values)
+      (cond (f || g) (tPlain (cond g (string w) (fixed num)))
+      (cond v tView (cond l (tListView w child) (cond m (tList w child) (cond u (cond s (tSparse ids flags fields) (tDense ids flags fields)) (cond r (tRunEnd e last) (tPlain (fixed (int w1)))))))))
 
-union-said : (b : Bool) (ids : List ℕ) → (isNumberKind (unionKind b ids) ≡ false) × (isRunKind (unionKind b ids) ≡ false)
-union-said true ids = (refl, refl)
-union-said false ids = (refl, refl)
+  -- it is one of numbers, alone and with run-end columns
+  abbrev Said : Bool → Bool → Ty → Type 0
+  Said f r t = (numberPlain t ≡ z && f) × (numberType t ≡ cond r (numberPlain last) (z && f))
 
--- the kind of a code by the tests of it
-abbrev kindBy : ℕ → Bool → Option (List ℕ) → ℕ → Bool → Bool → Bool → Bool → Bool → Bool → Bool → NodeKind
-kindBy c s o next f g v l m u r =
-    cond f (numberKind s (numberOr (numberOf c))) (cond g (stringNode (widthOf c)) (cond v viewNode (cond l (listViewNode (widthOf c)) (cond m (listNode (widthOf c)) (cond u (unionKind (isSparse c) (idsOr o)) (cond r (runEndNode (widthOf next)) (fixedNode i8)))))))
+  -- where no run end stands
+  settle : (f r : Bool) (t : Ty) → numberPlain t ≡ z && f → numberType t ≡ z && f → false ≡ r → Said f r t
+  settle f r t p q h = (p, q ∙ ap (λ b. cond b (numberPlain last) (z && f)) h)
 
--- what a code says of its kind
-said : (c : ℕ) (s : Bool) (o : Option (List ℕ)) (next : ℕ) → 1 ≤ c → c ≤ lastCode
-    → (isNumberKind (kindOf c s o next) ≡ s && isFixed c) × (isRunKind (kindOf c s o next) ≡ isRunEnd c)
-said c s o next low top = go (isFixed c) refl (isString c) refl (isView c) refl (isListView c) refl (isList c) refl (isUnion c) refl (isRunEnd c) refl
-  where
-    go : (f : Bool) → isFixed c ≡ f → (g : Bool) → isString c ≡ g → (v : Bool) → isView c ≡ v → (l : Bool) → isListView c ≡ l → (m : Bool) → isList c ≡ m → (u : Bool) → isUnion c ≡ u → (r : Bool) → isRunEnd c ≡ r
-        → (isNumberKind (kindBy c s o next f g v l m u r) ≡ s && f) × (isRunKind (kindBy c s o next f g v l m u r) ≡ r)
-    go true e g e1 v e2 l e3 m e4 u e5 r e6 = let p = number-said s (numberOr (numberOf c)) in (p .0, p .1 ∙ sym (no-run 1 10 c e (omega arith)) ∙ e6)
-    go false e true e1 v e2 l e3 m e4 u e5 r e6 = (and-false s, sym (no-run 11 14 c e1 (omega arith)) ∙ e6)
-    go false e false e1 true e2 l e3 m e4 u e5 r e6 = (and-false s, sym (no-run 15 16 c e2 (omega arith)) ∙ e6)
-    go false e false e1 false e2 true e3 m e4 u e5 r e6 = (and-false s, sym (no-run 17 18 c e3 (omega arith)) ∙ e6)
-    go false e false e1 false e2 false e3 true e4 u e5 r e6 = (and-false s, sym (no-run 19 20 c e4 (omega arith)) ∙ e6)
-    go false e false e1 false e2 false e3 false e4 true e5 r e6 = let p = union-said (isSparse c) (idsOr o) in (p .0 ∙ and-false s, p .1 ∙ sym (no-run 21 22 c e5 (omega arith)) ∙ e6)
-    go false e false e1 false e2 false e3 false e4 false e5 true e6 = (and-false s, refl)
-    go false e false e1 false e2 false e3 false e4 false e5 false e6 =
-        let past = above 23 23 c e6 (above 21 22 c e5 (above 19 20 c e4 (above 17 18 c e3 (above 15 16 c e2 (above 11 14 c e1 (above 1 10 c e low)))))) in
-        absurd (omega arith)
+  number-said : (c : Bool)
+      → (numberPlain (cond (not c) (tDictionary key values) (tPlain (fixed num))) ≡ c && true) × (numberType (cond (not c) (tDictionary key values) (tPlain (fixed num))) ≡ c && true)
+  number-said true = (refl, refl)
+  number-said false = (refl, refl)
+
+  union-said : (b : Bool)
+      → (numberPlain (cond b (tSparse ids flags fields) (tDense ids flags fields)) ≡ false) × (numberType (cond b (tSparse ids flags fields) (tDense ids flags fields)) ≡ false)
+  union-said true = (refl, refl)
+  union-said false = (refl, refl)
+
+  said : (c : ℕ) → 1 ≤ c → c ≤ lastCode → Said (isFixed c) (isRunEnd c) (typeBy (isFixed c) (isString c) (isView c) (isListView c) (isList c) (isUnion c) (isRunEnd c))
+  said c low top = go (isFixed c) refl (isString c) refl (isView c) refl (isListView c) refl (isList c) refl (isUnion c) refl (isRunEnd c) refl
+    where
+      go : (f : Bool) → isFixed c ≡ f → (g : Bool) → isString c ≡ g → (v : Bool) → isView c ≡ v → (l : Bool) → isListView c ≡ l → (m : Bool) → isList c ≡ m → (u : Bool) → isUnion c ≡ u → (r : Bool) → isRunEnd c ≡ r
+          → Said f r (typeBy f g v l m u r)
+      go true e0 true e1 v e2 l e3 m e4 u e5 r e6 = absurd (false≢true (sym (no-other 1 10 11 14 c e0 (omega arith)) ∙ e1))
+      go true e0 false e1 v e2 l e3 m e4 u e5 r e6 =
+          let p = number-said z in
+          settle true r (typeBy true false v l m u r) (p .0) (p .1) (sym (no-run 1 10 c e0 (omega arith)) ∙ e6)
+      go false e0 true e1 v e2 l e3 m e4 u e5 r e6 = settle false r (typeBy false true v l m u r) (and-false z) (and-false z) (sym (no-run 11 14 c e1 (omega arith)) ∙ e6)
+      go false e0 false e1 true e2 l e3 m e4 u e5 r e6 = settle false r tView (and-false z) (and-false z) (sym (no-run 15 16 c e2 (omega arith)) ∙ e6)
+      go false e0 false e1 false e2 true e3 m e4 u e5 r e6 = settle false r (tListView w child) (and-false z) (and-false z) (sym (no-run 17 18 c e3 (omega arith)) ∙ e6)
+      go false e0 false e1 false e2 false e3 true e4 u e5 r e6 = settle false r (tList w child) (and-false z) (and-false z) (sym (no-run 19 20 c e4 (omega arith)) ∙ e6)
+      go false e0 false e1 false e2 false e3 false e4 true e5 r e6 =
+          let p = union-said s in
+          settle false r (cond s (tSparse ids flags fields) (tDense ids flags fields)) (p .0 ∙ and-false z) (p .1 ∙ and-false z) (sym (no-run 21 22 c e5 (omega arith)) ∙ e6)
+      go false e0 false e1 false e2 false e3 false e4 false e5 true e6 = (and-false z, refl)
+      go false e0 false e1 false e2 false e3 false e4 false e5 false e6 =
+          let past = above 23 23 c e6 (above 21 22 c e5 (above 19 20 c e4 (above 17 18 c e3 (above 15 16 c e2 (above 11 14 c e1 (above 1 10 c e0 low)))))) in
+          absurd (omega arith)
 
 -- ---- a column's codes
 
@@ -112,9 +97,22 @@ module _ (formats schema : List ℕ) (first n : ℕ) (t : typed formats schema f
   root-in : 0 < n
   root-in = some-node formats schema first n (typed-whole formats schema first n t)
 
-  node-said : (i : ℕ) → i < n → (isNumberKind (kindAt formats schema first i) ≡ numberNode formats schema first i) × (isRunKind (kindAt formats schema first i) ≡ isRunEnd (codeOf formats schema first i))
-  unfolding kindAt numberNode
-  node-said i l = said (codeOf formats schema first i) (eqb (dictionary schema first i) 0) (idsOf formats schema first i) (codeOf formats schema first (suc i)) (coded formats schema first n i (typed-shape formats schema first n t i l)) (code-low formats schema first n i)
+  abbrev code : ℕ → ℕ
+  code i = codeOf formats schema first i
+
+  abbrev ids : ℕ → List ℕ
+  ids i = Option·getD (idsOf formats schema first i) []
+
+  -- the type of node i, down to a depth of suc f
+  node-said : (f i : ℕ) → i < n
+      → (numberPlain (tyOf (treeOf formats schema first n) (suc f) i) ≡ numberNode formats schema first i)
+      × (numberType (tyOf (treeOf formats schema first n) (suc f) i) ≡ cond (isRunEnd (code i)) (numberPlain (tyOf (treeOf formats schema first n) f (suc (suc i)))) (numberNode formats schema first i))
+  unfolding tyOf numberNode
+  node-said f i l =
+      let tree : Tree = treeOf formats schema first n in
+      said (eqb (dictionary schema first i) 0) (eqb (code i) 21) (numberOr (numberOf (code i))) (plainOf (code (suc i))) (widthOf (code i)) (numberOr (numberOf (code i))) (tyOf tree f (suc i)) (ids i)
+      (λ c. nullable schema first (nodeOf tree i (ids i) c)) (λ c. tyOf tree f (nodeOf tree i (ids i) c)) (widthOf (code (suc i))) (tyOf tree f (suc (suc i))) (code i)
+      (coded formats schema first n i (typed-shape formats schema first n t i l)) (code-low formats schema first n i)
 
   plain-no-run : (p : Plain) → isRunKind (plainKind p) ≡ false
   plain-no-run (fixed m) = refl
@@ -141,15 +139,10 @@ module _ (formats schema : List ℕ) (first n : ℕ) (t : typed formats schema f
 
   -- THE TYPE IS ONE OF NUMBERS where the codes say so
   pub numbers-are : numberType (typeOf formats schema first n) ≡ ofNumbers formats schema first
-  unfolding tyOf ofNumbers
-  numbers-are =
-      type-by (treeOf formats schema first n) (tyOf (treeOf formats schema first n) 7) (kindAt formats schema first 0) 0
-      ∙ go (isRunEnd (codeOf formats schema first 0)) refl
+  unfolding ofNumbers
+  numbers-are = node-said 7 0 root-in .1 ∙ go (isRunEnd (code 0)) refl
     where
-      go : (b : Bool) → isRunEnd (codeOf formats schema first 0) ≡ b
-          → cond (isRunKind (kindAt formats schema first 0)) (numberPlain (tyAs (treeOf formats schema first n) (tyOf (treeOf formats schema first n) 6) (kindAt formats schema first 2) 2)) (isNumberKind (kindAt formats schema first 0))
-          ≡ cond b (numberNode formats schema first 2) (numberNode formats schema first 0)
-      go true e =
-          let r = node-said 0 root-in .1 ∙ e in
-          rw r (plain-by (treeOf formats schema first n) (tyOf (treeOf formats schema first n) 6) (kindAt formats schema first 2) 2 ∙ node-said 2 (values-in r) .0)
-      go false e = rw (node-said 0 root-in .1 ∙ e) (node-said 0 root-in .0)
+      go : (b : Bool) → isRunEnd (code 0) ≡ b
+          → cond b (numberPlain (tyOf (treeOf formats schema first n) 7 2)) (numberNode formats schema first 0) ≡ cond b (numberNode formats schema first 2) (numberNode formats schema first 0)
+      go true e = node-said 6 2 (values-in (ap isRunKind (at-run formats schema first 0 e))) .0
+      go false e = refl

@@ -6,7 +6,7 @@ use Prim.Native.Nat.{ℕ, zero, suc}
 use native.Mathlib.Omega.{arith}
 use lib.Dec.{leb}
 use borrow.Author.Tests.{leb-true}
-use Rattle.columnar.specs.Types.{Number, i8, u8, i16, u16, i32, u32, i64, u64, f32, f64, width}
+use Rattle.columnar.specs.Types.{Number, int, uint, w1, w2, w4, w8, f32, f64, width}
 use Rattle.schema.specs.formats.Code.{isFixed, widthOf}
 use Rattle.schema.specs.formats.Types.{numberOf}
 
@@ -14,14 +14,14 @@ use Rattle.schema.specs.formats.Types.{numberOf}
 pub number-width : (code : ℕ) (n : Number) → numberOf code ≡ some n → width n ≡ widthOf code
 unfolding numberOf
 number-width zero n e = absurd (Option·none-ne-some n e)
-number-width (suc zero) n e = ap width (sym (Option·some-injective i8 n e))
-number-width (suc (suc zero)) n e = ap width (sym (Option·some-injective u8 n e))
-number-width (suc (suc (suc zero))) n e = ap width (sym (Option·some-injective i16 n e))
-number-width (suc (suc (suc (suc zero)))) n e = ap width (sym (Option·some-injective u16 n e))
-number-width (suc (suc (suc (suc (suc zero))))) n e = ap width (sym (Option·some-injective i32 n e))
-number-width (suc (suc (suc (suc (suc (suc zero)))))) n e = ap width (sym (Option·some-injective u32 n e))
-number-width (suc (suc (suc (suc (suc (suc (suc zero))))))) n e = ap width (sym (Option·some-injective i64 n e))
-number-width (suc (suc (suc (suc (suc (suc (suc (suc zero)))))))) n e = ap width (sym (Option·some-injective u64 n e))
+number-width (suc zero) n e = ap width (sym (Option·some-injective (int w1) n e))
+number-width (suc (suc zero)) n e = ap width (sym (Option·some-injective (uint w1) n e))
+number-width (suc (suc (suc zero))) n e = ap width (sym (Option·some-injective (int w2) n e))
+number-width (suc (suc (suc (suc zero)))) n e = ap width (sym (Option·some-injective (uint w2) n e))
+number-width (suc (suc (suc (suc (suc zero))))) n e = ap width (sym (Option·some-injective (int w4) n e))
+number-width (suc (suc (suc (suc (suc (suc zero)))))) n e = ap width (sym (Option·some-injective (uint w4) n e))
+number-width (suc (suc (suc (suc (suc (suc (suc zero))))))) n e = ap width (sym (Option·some-injective (int w8) n e))
+number-width (suc (suc (suc (suc (suc (suc (suc (suc zero)))))))) n e = ap width (sym (Option·some-injective (uint w8) n e))
 number-width (suc (suc (suc (suc (suc (suc (suc (suc (suc zero))))))))) n e = ap width (sym (Option·some-injective f32 n e))
 number-width (suc (suc (suc (suc (suc (suc (suc (suc (suc (suc zero)))))))))) n e = ap width (sym (Option·some-injective f64 n e))
 number-width (suc (suc (suc (suc (suc (suc (suc (suc (suc (suc (suc code))))))))))) n e = absurd (Option·none-ne-some n e)
@@ -30,14 +30,14 @@ number-width (suc (suc (suc (suc (suc (suc (suc (suc (suc (suc (suc code))))))))
 pub fixed-number : (code : ℕ) → isFixed code ≡ true → (n : Number) × (numberOf code ≡ some n)
 unfolding numberOf
 fixed-number zero h = absurd (false≢true h)
-fixed-number (suc zero) h = (i8, refl)
-fixed-number (suc (suc zero)) h = (u8, refl)
-fixed-number (suc (suc (suc zero))) h = (i16, refl)
-fixed-number (suc (suc (suc (suc zero)))) h = (u16, refl)
-fixed-number (suc (suc (suc (suc (suc zero))))) h = (i32, refl)
-fixed-number (suc (suc (suc (suc (suc (suc zero)))))) h = (u32, refl)
-fixed-number (suc (suc (suc (suc (suc (suc (suc zero))))))) h = (i64, refl)
-fixed-number (suc (suc (suc (suc (suc (suc (suc (suc zero)))))))) h = (u64, refl)
+fixed-number (suc zero) h = ((int w1), refl)
+fixed-number (suc (suc zero)) h = ((uint w1), refl)
+fixed-number (suc (suc (suc zero))) h = ((int w2), refl)
+fixed-number (suc (suc (suc (suc zero)))) h = ((uint w2), refl)
+fixed-number (suc (suc (suc (suc (suc zero))))) h = ((int w4), refl)
+fixed-number (suc (suc (suc (suc (suc (suc zero)))))) h = ((uint w4), refl)
+fixed-number (suc (suc (suc (suc (suc (suc (suc zero))))))) h = ((int w8), refl)
+fixed-number (suc (suc (suc (suc (suc (suc (suc (suc zero)))))))) h = ((uint w8), refl)
 fixed-number (suc (suc (suc (suc (suc (suc (suc (suc (suc zero))))))))) h = (f32, refl)
 fixed-number (suc (suc (suc (suc (suc (suc (suc (suc (suc (suc zero)))))))))) h = (f64, refl)
 fixed-number (suc (suc (suc (suc (suc (suc (suc (suc (suc (suc (suc c))))))))))) h =

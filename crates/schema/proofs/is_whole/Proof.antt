@@ -1,7 +1,8 @@
 -- `schema::is_whole` meets its contract. The invariant: what is due from k on ends where the root's subtree ends, and leaves as many due. Assumes nothing.
 use Prim.Native.Nat.{_+_, _-_, _*_, _≤_}
 use mathlib.Core.Path.{_≡_, sym, _∙_, refl}
-use Rattle.schema.specs.Tree.{below, endFrom, dueFrom}
+use Rattle.schema.specs.Tree.{below, endFrom}
+use Rattle.schema.proofs.Due.{dueFrom}
 use Rattle.schema.proofs.Laws.{end-step, due-step, not-none, not-early, by-due}
 use native.Mathlib.Omega.{arith}
 use Rattle.schema.proofs.is_whole.Statement.{statement}

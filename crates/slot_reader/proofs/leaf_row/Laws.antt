@@ -18,7 +18,7 @@ use mir.ValLaws.{toZ-ofZ}
 use mir.Facts.{sfits-widen}
 use Rattle.number.specs.Number.{number}
 use Rattle.number.proofs.Laws.{number-lt}
-use Rattle.columnar.specs.Types.{Number, i8, u8, i16, u16, i32, u32, i64, u64, f32, f64, width}
+use Rattle.columnar.specs.Types.{Number, int, uint, w1, w2, w4, w8, f32, f64, width}
 use Rattle.columnar.specs.Row.{Row, null, whole, single, double}
 use Rattle.columnar.specs.Plain.{value}
 use Rattle.slot_reader.specs.declared.leaf_row.Leaf.{Leaf}
@@ -71,14 +71,14 @@ double-row b h = go (nanBits binary64 b) refl
 
 -- the case that a number's bits are read as has the row that the format gives them
 pub leaf-row : (n : Number) (p : ℕ) → p < 256 ^ width n → leafRow (leafOf n p) ≡ value n p
-leaf-row i8 p h = refl
-leaf-row u8 p h = refl
-leaf-row i16 p h = refl
-leaf-row u16 p h = refl
-leaf-row i32 p h = refl
-leaf-row u32 p h = refl
-leaf-row i64 p h = refl
-leaf-row u64 p h = refl
+leaf-row (int w1) p h = refl
+leaf-row (uint w1) p h = refl
+leaf-row (int w2) p h = refl
+leaf-row (uint w2) p h = refl
+leaf-row (int w4) p h = refl
+leaf-row (uint w4) p h = refl
+leaf-row (int w8) p h = refl
+leaf-row (uint w8) p h = refl
 leaf-row f32 p h = single-row p h
 leaf-row f64 p h = double-row p h
 

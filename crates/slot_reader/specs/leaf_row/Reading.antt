@@ -6,7 +6,7 @@ use lib.ListN.{getD}
 use lib.IntN.{ℤ, pos, negsuc}
 use lib.Ieee.{binary32, binary64, nanBits, ofBits, toBits}
 use Rattle.number.specs.Number.{signed}
-use Rattle.columnar.specs.Types.{Number, i8, u8, i16, u16, i32, u32, i64, u64, f32, f64}
+use Rattle.columnar.specs.Types.{Number, int, uint, w1, w2, w4, w8, f32, f64}
 use Rattle.columnar.specs.Row.{Row, null, whole, single, double, bytes, list, union}
 use Rattle.slot_reader.specs.declared.leaf_row.Leaf.{Leaf}
 use Rattle.slot_reader.specs.declared.leaf_row.Leaf.the-variants.{Null, Signed, Unsigned, Single, Double, SingleNan, DoubleNan}
@@ -14,11 +14,11 @@ use Rattle.slot_reader.specs.declared.leaf_row.Key.{Key}
 
 -- the formats c C s S i I l L f g
 abbrev pub formats : List Number
-formats = i8 ∷ u8 ∷ i16 ∷ u16 ∷ i32 ∷ u32 ∷ i64 ∷ u64 ∷ f32 ∷ f64 ∷ []
+formats = (int w1) ∷ (uint w1) ∷ (int w2) ∷ (uint w2) ∷ (int w4) ∷ (uint w4) ∷ (int w8) ∷ (uint w8) ∷ f32 ∷ f64 ∷ []
 
 -- they are numbered from 1 on
 abbrev pub numberOf : ℕ → Number
-numberOf code = getD formats (code - 1) i8
+numberOf code = getD formats (code - 1) (int w1)
 
 -- the row of each case
 abbrev pub leafRow : Leaf → Row
@@ -39,14 +39,14 @@ doubleOf b = cond (nanBits binary64 b) (DoubleNan b) (Double (ofBits binary64 b)
 
 -- the case that the bits of a number are read as
 abbrev pub leafOf : Number → ℕ → Leaf
-leafOf i8 p = Signed (signed 1 p)
-leafOf u8 p = Unsigned p
-leafOf i16 p = Signed (signed 2 p)
-leafOf u16 p = Unsigned p
-leafOf i32 p = Signed (signed 4 p)
-leafOf u32 p = Unsigned p
-leafOf i64 p = Signed (signed 8 p)
-leafOf u64 p = Unsigned p
+leafOf (int w1) p = Signed (signed 1 p)
+leafOf (uint w1) p = Unsigned p
+leafOf (int w2) p = Signed (signed 2 p)
+leafOf (uint w2) p = Unsigned p
+leafOf (int w4) p = Signed (signed 4 p)
+leafOf (uint w4) p = Unsigned p
+leafOf (int w8) p = Signed (signed 8 p)
+leafOf (uint w8) p = Unsigned p
 leafOf f32 p = singleOf p
 leafOf f64 p = doubleOf p
 

@@ -20,6 +20,7 @@ use Rattle.walk.specs.Copy.{Walk, masked, listViewRow, copyListView, putStretch
 use Rattle.sound.specs.trying.Alike.{Alike}
 use Rattle.sound.proofs.trying.Laws.{alike-refl, alike-rows, alike-bytes, alike-gap, alike-other}
 use Rattle.walk.proofs.Names.{putList, copyFields}
+use Rattle.walk.proofs.Offsets.{string-is, list-is}
 
 -- ---- walks that answer alike
 
@@ -97,12 +98,12 @@ module _ (x : Join) where
     near-extended w from n Falls h = near-fail 12 h
 
     near-string : (w slot n : ℕ) {c d : List ℕ} → Alike c d → Near (copyString x i w slot n c) (copyString x i w slot n d)
-    unfolding copyString
     near-string w slot n {c} {d} h =
-        near-cond (eqb n 0) (near-done h)
+        rw (string-is x i w slot n c, string-is x i w slot n d)
+        (near-cond (eqb n 0) (near-done h)
         (near-need refl 12 h
         (subst (λ v. Near (putExtended x i w (place x i 3 + w * slot) n (extended w (x .body) (place x i 3 + w * slot) n (bytes c i)) c) (putExtended x i w (place x i 3 + w * slot) n (extended w (x .body) (place x i 3 + w * slot) n v) d))
-        (h .bytes-same i) (near-extended w (place x i 3 + w * slot) n (extended w (x .body) (place x i 3 + w * slot) n (bytes c i)) h)))
+        (h .bytes-same i) (near-extended w (place x i 3 + w * slot) n (extended w (x .body) (place x i 3 + w * slot) n (bytes c i)) h))))
 
   -- ---- nodes with children
 
@@ -126,13 +127,13 @@ module _ (x : Join) where
     near-stretch w from n Falls h = near-fail 12 h
 
     near-lists : (w slot n : ℕ) {c d : List ℕ} → Alike c d → Near (copyList x walk w i slot n c) (copyList x walk w i slot n d)
-    unfolding copyList
     near-lists w slot n {c} {d} h =
-        near-cond (eqb n 0) (near-done h)
+        rw (list-is x walk w i slot n c, list-is x walk w i slot n d)
+        (near-cond (eqb n 0) (near-done h)
         (near-need refl 12 h
         (near-need refl 12 h
         (subst (λ v. Near (putList x walk w i (place x i 3 + w * slot) n (extended w (x .body) (place x i 3 + w * slot) n (rows c (suc i))) c) (putList x walk w i (place x i 3 + w * slot) n (extended w (x .body) (place x i 3 + w * slot) n v) d))
-        (h .rows-same (suc i)) (near-stretch w (place x i 3 + w * slot) n (extended w (x .body) (place x i 3 + w * slot) n (rows c (suc i))) h))))
+        (h .rows-same (suc i)) (near-stretch w (place x i 3 + w * slot) n (extended w (x .body) (place x i 3 + w * slot) n (rows c (suc i))) h)))))
 
     near-fields : (slot n end f k : ℕ) {c d : List ℕ} → Alike c d → Near (copyFields x walk slot n end f k c) (copyFields x walk slot n end f k d)
     unfolding eachField

@@ -11,7 +11,7 @@ use lib.ListN.{length, drop, getD}
 use lib.Seq.{drop-cons, drop-length}
 use lib.Dec.{leb, eqb}
 use borrow.Author.Tests.{le-leb, lt-leb, leb-true, leb-false}
-use Rattle.columnar.specs.Types.{Number, i8, u8, i16, u16, i32, u32, i64, u64, f32, f64, width, limit}
+use Rattle.columnar.specs.Types.{Number, int, uint, w1, w2, w4, w8, f32, f64, width, limit}
 use Rattle.columnar.specs.Test.{every, each}
 use Rattle.schema.specs.formats.Types.{numberOf}
 use Rattle.row_rules.specs.slots.Slots.{startAt, bytesAt, viewsGood, validViewsGood, keysBelow, validKeysBelow, idsDeclared, positionsWithin}
@@ -76,30 +76,30 @@ limits = 0 ∷ 128 ∷ 256 ∷ 32768 ∷ 65536 ∷ 2147483648 ∷ 4294967296 ∷
 pub bound-is : (code : ℕ) (n : Number) (values : ℕ) → values < 2 ^ 64 → numberOf code ≡ some n → min (getD limits code 0) values ≡ min (limit n) values
 unfolding numberOf
 bound-is zero n values h e = absurd (Option·none-ne-some n e)
-bound-is (suc zero) n values h e = ap (λ m. min (limit m) values) (Option·some-injective i8 n e)
-bound-is (suc (suc zero)) n values h e = ap (λ m. min (limit m) values) (Option·some-injective u8 n e)
-bound-is (suc (suc (suc zero))) n values h e = ap (λ m. min (limit m) values) (Option·some-injective i16 n e)
-bound-is (suc (suc (suc (suc zero)))) n values h e = ap (λ m. min (limit m) values) (Option·some-injective u16 n e)
-bound-is (suc (suc (suc (suc (suc zero))))) n values h e = ap (λ m. min (limit m) values) (Option·some-injective i32 n e)
-bound-is (suc (suc (suc (suc (suc (suc zero)))))) n values h e = ap (λ m. min (limit m) values) (Option·some-injective u32 n e)
-bound-is (suc (suc (suc (suc (suc (suc (suc zero))))))) n values h e = ap (λ m. min (limit m) values) (Option·some-injective i64 n e)
+bound-is (suc zero) n values h e = ap (λ m. min (limit m) values) (Option·some-injective (int w1) n e)
+bound-is (suc (suc zero)) n values h e = ap (λ m. min (limit m) values) (Option·some-injective (uint w1) n e)
+bound-is (suc (suc (suc zero))) n values h e = ap (λ m. min (limit m) values) (Option·some-injective (int w2) n e)
+bound-is (suc (suc (suc (suc zero)))) n values h e = ap (λ m. min (limit m) values) (Option·some-injective (uint w2) n e)
+bound-is (suc (suc (suc (suc (suc zero))))) n values h e = ap (λ m. min (limit m) values) (Option·some-injective (int w4) n e)
+bound-is (suc (suc (suc (suc (suc (suc zero)))))) n values h e = ap (λ m. min (limit m) values) (Option·some-injective (uint w4) n e)
+bound-is (suc (suc (suc (suc (suc (suc (suc zero))))))) n values h e = ap (λ m. min (limit m) values) (Option·some-injective (int w8) n e)
 bound-is (suc (suc (suc (suc (suc (suc (suc (suc zero)))))))) n values h e =
     let t : min 18446744073709551615 values ≡ min 18446744073709551616 values = omega arith in
-    t ∙ ap (λ m. min (limit m) values) (Option·some-injective u64 n e)
+    t ∙ ap (λ m. min (limit m) values) (Option·some-injective (uint w8) n e)
 bound-is (suc (suc (suc (suc (suc (suc (suc (suc (suc zero))))))))) n values h e = ap (λ m. min (limit m) values) (Option·some-injective f32 n e)
 bound-is (suc (suc (suc (suc (suc (suc (suc (suc (suc (suc zero)))))))))) n values h e = ap (λ m. min (limit m) values) (Option·some-injective f64 n e)
 bound-is (suc (suc (suc (suc (suc (suc (suc (suc (suc (suc (suc code))))))))))) n values h e = absurd (Option·none-ne-some n e)
 
 -- a number has 1, 2, 4 or 8 bytes
 pub widths-all : (m : Number) (w : ℕ) → width m ≡ w → (w ≡ 1 → ⊥) → (w ≡ 2 → ⊥) → (w ≡ 4 → ⊥) → (w ≡ 8 → ⊥) → ⊥
-widths-all i8 w e a b c d = a (sym e)
-widths-all u8 w e a b c d = a (sym e)
-widths-all i16 w e a b c d = b (sym e)
-widths-all u16 w e a b c d = b (sym e)
-widths-all i32 w e a b c d = c (sym e)
-widths-all u32 w e a b c d = c (sym e)
-widths-all i64 w e a b c d = d (sym e)
-widths-all u64 w e a b c d = d (sym e)
+widths-all (int w1) w e a b c d = a (sym e)
+widths-all (uint w1) w e a b c d = a (sym e)
+widths-all (int w2) w e a b c d = b (sym e)
+widths-all (uint w2) w e a b c d = b (sym e)
+widths-all (int w4) w e a b c d = c (sym e)
+widths-all (uint w4) w e a b c d = c (sym e)
+widths-all (int w8) w e a b c d = d (sym e)
+widths-all (uint w8) w e a b c d = d (sym e)
 widths-all f32 w e a b c d = c (sym e)
 widths-all f64 w e a b c d = d (sym e)
 

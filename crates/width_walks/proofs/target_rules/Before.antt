@@ -7,11 +7,10 @@ use native.Mathlib.Omega.{arith}
 use lib.Dec.{T}
 use Rattle.columnar.specs.Wider.{integer}
 use Rattle.schema.specs.formats.Code.{isInteger}
-use Rattle.schema.specs.formats.Types.{numberOf}
+use Rattle.schema.specs.formats.Types.{numberOf, numberOr}
 use Rattle.schema.specs.Tree.{below, endOf, childAt, whole}
 use Rattle.schema.proofs.Trees.{child-inside, end-after, end-inside}
 use Rattle.schema.proofs.Depth.{nested, child-before}
-use Rattle.array_data.specs.type_tree.Lent.{numberOr}
 use Rattle.width_walks.proofs.target_rules.Codes.{range}
 
 pub integer-number : (c : ℕ) → isInteger c ≡ true → T (integer (numberOr (numberOf c)))

@@ -13,7 +13,8 @@ use Rattle.schema.specs.Tree.{dictionary, below, endFrom, endOf, codeOf, idsOf,
 use Rattle.schema.proofs.Trees.{end-inside}
 use Rattle.schema.proofs.Known.{typed-shape}
 use Rattle.array_data.specs.Tables.{Tables}
-use Rattle.array_data.specs.Typed.{NodeKind, Tree, childNode, nodeOf, fieldOf, allOf, MeansPlain, Means, nodes}
+use Rattle.array_data.specs.NodeKinds.{NodeKind}
+use Rattle.array_data.specs.Typed.{Tree, childNode, nodeOf, fieldOf, allOf, MeansPlain, Means, nodes, kindIn, subtreeEnd}
 use Rattle.array_data.specs.type_tree.Lent.{treeOf, typeOf}
 use Rattle.array_data.proofs.type_tree.Lent.{means}
 use Rattle.array_data.proofs.type_tree.Covered.{covered}
@@ -51,10 +52,10 @@ module _ (formats schema : List ℕ) (first first′ n : ℕ) (g : Alike formats
       CodeWidths (eqb (dictionary schema first i) 1) (endsAt formats schema first i) (code i) (code′ i)
       × (isUnion (code i) ≡ true → idsOf formats schema first i ≡ idsOf formats schema first′ i)
 
-  read : (i : ℕ) {k : NodeKind} → i < n → here .kind i ≡ k → ReadsAs formats schema first i k
+  read : (i : ℕ) {k : NodeKind} → i < n → kindIn here i ≡ k → ReadsAs formats schema first i k
   read i l e = subst (ReadsAs formats schema first i) e (reads-at formats schema first i (typed-shape formats schema first n t i l))
 
-  read′ : (i : ℕ) {k : NodeKind} → i < n → there .kind i ≡ k → ReadsAs formats schema first′ i k
+  read′ : (i : ℕ) {k : NodeKind} → i < n → kindIn there i ≡ k → ReadsAs formats schema first′ i k
   read′ i l e = subst (ReadsAs formats schema first′ i) e (reads-at formats schema first′ i (typed-shape formats schema first′ n (g .of-type) i l))
 
   no-union : {A : Type 0} (a b c : ℕ) → between a b c ≡ true → b < 21 → isUnion c ≡ true → A
@@ -90,7 +91,7 @@ module _ (formats schema : List ℕ) (first first′ n : ℕ) (g : Alike formats
   child-both i zero l = (refl, omega arith)
   child-both i (suc j) l =
       let p = child-both i j l in
-      (end-same (childNode here i j) (p .1) ∙ ap (there .end) (p .0), end-inside schema first n (childNode here i j) (p .1))
+      (end-same (childNode here i j) (p .1) ∙ ap (subtreeEnd there) (p .0), end-inside schema first n (childNode here i j) (p .1))
 
   -- ---- all nodes of a type
 

@@ -7,12 +7,11 @@ use Prim.Native.Nat.{ℕ, zero, suc, _≤_}
 use native.Mathlib.Omega.{arith}
 use lib.Dec.{leb, eqb}
 use borrow.Author.Tests.{leb-true, leb-false, eqb-true, eqb-false, ne-eqb}
-use Rattle.columnar.specs.Types.{Number, i8, u8, i16, u16, i32, u32, i64, u64, f32, f64}
+use Rattle.columnar.specs.Types.{Number, int, uint, w1, w2, w4, w8, f32, f64}
 use Rattle.schema.specs.formats.Code.{isInteger, isFixed, isString, isView, isListView, isList, isUnion, isRunEnd}
-use Rattle.schema.specs.formats.Types.{numberOf}
+use Rattle.schema.specs.formats.Types.{numberOf, numberOr}
 use Rattle.schema.specs.Tree.{children, dictionary, bare, childForEach, codeOf, idsOf, valuesShape, endsShape, leafShape, keysShape, listShape, unionShape, runShape, shape}
-use Rattle.array_data.specs.Typed.{NodeKind, fixedNode, stringNode, viewNode, listViewNode, listNode, sparseNode, denseNode, runEndNode, dictionaryNode}
-use Rattle.array_data.specs.type_tree.Lent.{numberOr, kindAt}
+use Rattle.array_data.specs.NodeKinds.{NodeKind, fixedNode, stringNode, viewNode, listViewNode, listNode, sparseNode, denseNode, runEndNode, dictionaryNode, kindAt}
 use Rattle.array_data.proofs.type_tree.Ids.{both}
 use Rattle.array_data.proofs.type_tree.Shaped.{five, integer-fixed, at-fixed, at-keys, at-string, at-view, at-list, at-lists, at-union, at-run}
 use Rattle.width_walks.specs.target_rules.Target.{isEnds}
@@ -22,14 +21,14 @@ use Rattle.array_data.proofs.Names.{idsOr, unionKind}
 
 -- the code of a number's format
 codeFor : Number → ℕ
-codeFor i8 = 1
-codeFor u8 = 2
-codeFor i16 = 3
-codeFor u16 = 4
-codeFor i32 = 5
-codeFor u32 = 6
-codeFor i64 = 7
-codeFor u64 = 8
+codeFor (int w1) = 1
+codeFor (uint w1) = 2
+codeFor (int w2) = 3
+codeFor (uint w2) = 4
+codeFor (int w4) = 5
+codeFor (uint w4) = 6
+codeFor (int w8) = 7
+codeFor (uint w8) = 8
 codeFor f32 = 9
 codeFor f64 = 10
 

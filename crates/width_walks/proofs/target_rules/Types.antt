@@ -12,13 +12,15 @@ use Rattle.columnar.specs.Types.{Number, Plain, fixed, string}
 use Rattle.columnar.specs.Wider.{Declared, integer}
 use Rattle.columnar.proofs.Test.{member-agrees}
 use Rattle.schema.specs.formats.Code.{between, isInteger, isFixed, isString, isView, isListView, isList, isUnion, isRunEnd, widthOf}
-use Rattle.schema.specs.formats.Types.{numberOf}
+use Rattle.schema.specs.formats.Types.{numberOf, numberOr}
 use Rattle.schema.specs.Tree.{children, dictionary, below, endFrom, bare, childForEach, isValues, endOf, childAt, depth, whole, codeOf, idsOf, valuesShape, endsShape, leafShape, keysShape, listShape, unionShape, runShape, shape, ceilings, typed}
 use Rattle.schema.proofs.Trees.{child-inside, child-is, end-up}
 use Rattle.schema.proofs.Depth.{child-depth}
 use Rattle.schema.proofs.Known.{typed-whole, typed-shape, within-depth}
-use Rattle.array_data.specs.Typed.{NodeKind, fixedNode, viewNode, listViewNode, listNode, sparseNode, denseNode, runEndNode, dictionaryNode, Tree, childNode, fieldOf}
-use Rattle.array_data.specs.type_tree.Lent.{numberOr, kindAt, treeOf, plainAs, tyAs, tyOf, typeOf}
+use Rattle.array_data.proofs.type_tree.ByKind.{plainAs, tyAs, type-as}
+use Rattle.array_data.specs.NodeKinds.{NodeKind, fixedNode, viewNode, listViewNode, listNode, sparseNode, denseNode, runEndNode, dictionaryNode, kindAt}
+use Rattle.array_data.specs.Typed.{Tree, childNode, fieldOf, nullableIn}
+use Rattle.array_data.specs.type_tree.Lent.{treeOf, tyOf, typeOf}
 use Rattle.array_data.proofs.type_tree.Ids.{both, field-in}
 use Rattle.array_data.proofs.type_tree.Shaped.{five, integer-fixed, plainKind, at-fixed, at-keys, at-string, at-view, at-list, at-lists, at-union, at-run}
 use Rattle.array_data.proofs.type_tree.Lent.{child-same, first-child, second-child, some-node, root}
@@ -286,7 +288,7 @@ module _ (formats schema : List ℕ) (first first′ n : ℕ) (nodes : (i : ℕ)
 
     -- a union's field: its flag and its type
     field-widths : (f i : ℕ) → i < n → eqb (dictionary schema first i) 1 ≡ false → (j : ℕ) → j < below schema first i → WidthsFrom f (childAt schema first n i j)
-        → (here .nullable (childNode here i j) ≡ there .nullable (childNode there i j)) × Widths (tyOf here f (childNode here i j)) (tyOf there f (childNode there i j))
+        → (nullableIn here (childNode here i j) ≡ nullableIn there (childNode there i j)) × Widths (tyOf here f (childNode here i j)) (tyOf there f (childNode there i j))
     field-widths f i l s j h m =
         let k = childAt schema first n i j in
         let a = child-same formats schema first n i j in
@@ -294,7 +296,7 @@ module _ (formats schema : List ℕ) (first first′ n : ℕ) (nodes : (i : ℕ)
         let v : isValues schema first k ≡ false = values-are k ∙ prev-child schema first n w (λ m. eqb (dictionary schema first m) 1) (λ m l q. keys-below m (eqb-true _ 1 q)) i j l h s in
         let up : i < k = child-up i j l in
         let g = nodes k (child-inside schema first n w i j l h) .same-flag (λ z. omega arith) v in (
-          sym (ap (here .nullable) a) ∙ ap (λ z. eqb z 1) g ∙ ap (there .nullable) b,
+          sym (ap (nullableIn here) a) ∙ ap (λ z. eqb z 1) g ∙ ap (nullableIn there) b,
           subst (λ z. Widths (tyOf here f z) (tyOf there f (childNode there i j))) a (subst (λ z. Widths (tyOf here f k) (tyOf there f z)) b m),
         )
 
@@ -306,8 +308,8 @@ module _ (formats schema : List ℕ) (first first′ n : ℕ) (nodes : (i : ℕ)
     plain-type f i (sFixed m) = sPlain _ _ (sFixed m)
     plain-type f i (sString v v′) = sPlain _ _ (sString v v′)
 
-    moved : (f i : ℕ) {k k′ : NodeKind} → kind i ≡ k → kind′ i ≡ k′ → WidthsAs f i k k′ → WidthsAs f i (kind i) (kind′ i)
-    moved f i {k} {k′} e e′ h = subst (λ z. WidthsAs f i z (kind′ i)) (sym e) (subst (λ z. WidthsAs f i k z) (sym e′) h)
+    moved : (f i : ℕ) {k k′ : NodeKind} → kind i ≡ k → kind′ i ≡ k′ → WidthsAs f i k k′ → WidthsFrom (suc f) i
+    moved f i {k} {k′} e e′ h = subst (λ u. Widths u (tyOf there (suc f) i)) (sym (type-as here f i e)) (subst (Widths (tyAs here (tyOf here f) k i)) (sym (type-as there f i e′)) h)
 
     -- the runs of a tree have something below them
     module _ (shapes : (i : ℕ) → i < n → shape formats schema first i ≡ true) where
@@ -351,7 +353,6 @@ module _ (formats schema : List ℕ) (first first′ n : ℕ) (nodes : (i : ℕ)
       not-ended-later i j l h = ended-is (childAt schema first n i (suc j)) ∙ prev-later schema first n w (λ m. isRunEnd (code m)) run-big i j l h
 
       types-by : (f i : ℕ) → i < n → Kinds i → ((j : ℕ) → j < below schema first i → ended (childAt schema first n i j) ≡ false → WidthsFrom f (childAt schema first n i j)) → WidthsFrom (suc f) i
-      unfolding tyOf
       types-by f i l (k-plain a) kid = moved f i (a .here) (a .there) (plain-type f i (a .widths))
       types-by f i l (k-view e e′) kid = moved f i e e′ sView
       types-by f i l (k-list v v′ e e′ b o) kid =

@@ -10,7 +10,7 @@ use lib.ListN.{getD}
 use lib.Dec.{leb, eqb}
 use borrow.Author.Tests.{leb-true, eq-eqb, ne-eqb}
 use Rattle.number.specs.Number.{encode}
-use Rattle.columnar.specs.Types.{Number, i8, u8, i16, u16, i32, u32, i64, u64, keyFits}
+use Rattle.columnar.specs.Types.{Number, int, uint, w1, w2, w4, w8, keyFits}
 use Rattle.columnar.specs.Test.{every}
 use Rattle.schema.specs.formats.Code.{isString, isList, isInteger, isRunEnd, widthOf}
 use Rattle.schema.specs.formats.Types.{numberOf}
@@ -131,14 +131,14 @@ record Known (code : ℕ) : Type 0 where
 integer-known : (code : ℕ) → isInteger code ≡ true → Known code
 unfolding numberOf
 integer-known zero h = absurd (false≢true h)
-integer-known (suc zero) h = record { number = i8; is-number = refl }
-integer-known (suc (suc zero)) h = record { number = u8; is-number = refl }
-integer-known (suc (suc (suc zero))) h = record { number = i16; is-number = refl }
-integer-known (suc (suc (suc (suc zero)))) h = record { number = u16; is-number = refl }
-integer-known (suc (suc (suc (suc (suc zero))))) h = record { number = i32; is-number = refl }
-integer-known (suc (suc (suc (suc (suc (suc zero)))))) h = record { number = u32; is-number = refl }
-integer-known (suc (suc (suc (suc (suc (suc (suc zero))))))) h = record { number = i64; is-number = refl }
-integer-known (suc (suc (suc (suc (suc (suc (suc (suc zero)))))))) h = record { number = u64; is-number = refl }
+integer-known (suc zero) h = record { number = (int w1); is-number = refl }
+integer-known (suc (suc zero)) h = record { number = (uint w1); is-number = refl }
+integer-known (suc (suc (suc zero))) h = record { number = (int w2); is-number = refl }
+integer-known (suc (suc (suc (suc zero)))) h = record { number = (uint w2); is-number = refl }
+integer-known (suc (suc (suc (suc (suc zero))))) h = record { number = (int w4); is-number = refl }
+integer-known (suc (suc (suc (suc (suc (suc zero)))))) h = record { number = (uint w4); is-number = refl }
+integer-known (suc (suc (suc (suc (suc (suc (suc zero))))))) h = record { number = (int w8); is-number = refl }
+integer-known (suc (suc (suc (suc (suc (suc (suc (suc zero)))))))) h = record { number = (uint w8); is-number = refl }
 integer-known (suc (suc (suc (suc (suc (suc (suc (suc (suc c))))))))) h =
     let k = suc (suc (suc (suc (suc (suc (suc (suc (suc c)))))))) in
     absurd (omega (arith, leb-true k 8 (and-right (leb 1 k) _ h)))

@@ -6,7 +6,7 @@ use Rattle.into_builder.proofs.places.copied_place.Statement.{statement
 use Rattle.into_builder.proofs.places.copied_place.Tie as tie
 
 valid-place-requires : tie.Need-valid-place-requires
-valid-place-requires c κs = (omega arith, omega arith, c .before .before .before .before .before .before .pre .1)
+valid-place-requires c κs = (omega arith, omega arith, c .before .before .before .before .before .before .pre .2)
 
 returns : tie.Need-returns
 returns c =
@@ -15,7 +15,7 @@ returns c =
     copied-valid (lent (z .plan .now) (z .parts .now) (z .sources .now) lengths (z .places .now) body) buffers (z .counters .now) room (z .base) (z .i) (z .j) (c .before .if1 .taken) g (c .valid-place .ensures room g)
 
 buffer-start-requires : tie.Need-buffer-start-requires
-buffer-start-requires c κs = (omega arith, omega arith, c .before .before .before .before .before .before .before .pre .1 .start 1 (omega arith))
+buffer-start-requires c κs = (omega arith, omega arith, c .before .before .before .before .before .before .before .pre .2 .start 1 (omega arith))
 
 returns-2 : tie.Need-returns-2
 returns-2 c =
@@ -24,7 +24,7 @@ returns-2 c =
     copied-three (lent (z .plan .now) (z .parts .now) (z .sources .now) lengths (z .places .now) body) buffers (z .counters .now) room (z .base) (z .i) (z .j) (c .before .if2 .taken) (c .buffer-start .ensures)
 
 buffer-size-requires : tie.Need-buffer-size-requires
-buffer-size-requires c κs = (omega arith, omega arith, c .before .before .before .before .before .before .before .before .pre .1 .size 1 (omega arith))
+buffer-size-requires c κs = (omega arith, omega arith, c .before .before .before .before .before .before .before .before .pre .2 .size 1 (omega arith))
 
 returns-3 : tie.Need-returns-3
 returns-3 c =
@@ -33,7 +33,7 @@ returns-3 c =
     copied-four (lent (z .plan .now) (z .parts .now) (z .sources .now) lengths (z .places .now) body) buffers (z .counters .now) room (z .base) (z .i) (z .j) (c .before .if3 .taken) (c .buffer-size .ensures)
 
 buffer-start-requires-2 : tie.Need-buffer-start-requires-2
-buffer-start-requires-2 c κs = (omega arith, omega arith, c .before .before .before .before .before .before .before .before .before .pre .1 .start 2 (omega arith))
+buffer-start-requires-2 c κs = (omega arith, omega arith, c .before .before .before .before .before .before .before .before .before .pre .2 .start 2 (omega arith))
 
 returns-4 : tie.Need-returns-4
 returns-4 c =
@@ -42,7 +42,7 @@ returns-4 c =
     copied-five (lent (z .plan .now) (z .parts .now) (z .sources .now) lengths (z .places .now) body) buffers (z .counters .now) room (z .base) (z .i) (z .j) (c .before .if4 .taken) (c .buffer-start2 .ensures)
 
 buffer-size-requires-2 : tie.Need-buffer-size-requires-2
-buffer-size-requires-2 c κs = (omega arith, omega arith, c .before .before .before .before .before .before .before .before .before .before .pre .1 .size 2 (omega arith))
+buffer-size-requires-2 c κs = (omega arith, omega arith, c .before .before .before .before .before .before .before .before .before .before .pre .2 .size 2 (omega arith))
 
 returns-5 : tie.Need-returns-5
 returns-5 c =
@@ -57,7 +57,7 @@ returns-6 : tie.Need-returns-6
 returns-6 c =
     let z = c .before .before .before .before .before .before .before .before .before .before .before .args in
     λ lengths body buffers room g.
-    copied-view (lent (z .plan .now) (z .parts .now) (z .sources .now) lengths (z .places .now) body) buffers (z .counters .now) room (z .base) (z .i) (z .j) (c .before .before .before .before .before .if1 .left) (c .before .before .before .before .if2 .left) (c .before .before .before .if3 .left) (c .before .before .if4 .left) (c .before .if5 .left) (c .view-place .ensures)
+    copied-view (lent (z .plan .now) (z .parts .now) (z .sources .now) lengths (z .places .now) body) buffers (z .counters .now) room (z .base) (z .i) (z .j) (c .before .before .before .before .before .before .before .before .before .before .before .pre .1) (c .before .before .before .before .before .if1 .left) (c .before .before .before .before .if2 .left) (c .before .before .before .if3 .left) (c .before .before .if4 .left) (c .before .if5 .left) (c .view-place .ensures)
 
 pub copied-place-spec : {M : Type 1} → statement M
 copied-place-spec =

@@ -13,7 +13,7 @@ is-copied-requires : tie.Need-is-copied-requires
 is-copied-requires c κs = omega arith
 
 copied-place-requires : tie.Need-copied-place-requires
-copied-place-requires c κs = (c .before .before .before .before .before .before .before .before .before .pre .0, c .before .before .before .before .before .before .before .before .before .pre .2)
+copied-place-requires c κs = c .before .before .before .before .before .before .before .before .before .pre
 
 returns : tie.Need-returns
 returns c =

@@ -4,7 +4,7 @@ use mathlib.Core.Path.{_≡_, refl, sym}
 use mathlib.Core.Bool.{false}
 use native.Mathlib.Numerals.{add-one}
 use native.Mathlib.Omega.{arith}
-use Rattle.model.specs.Opening.{anyNull}
+use Rattle.model.specs.Opening.{keeps}
 use Rattle.array_data.specs.lent_tables.Lent.{tables}
 use Rattle.plan.specs.dictionaries.Sources.{arrayAt}
 use Rattle.plan.proofs.dictionaries.Laws.{count-at, nulls-no, nulls-yes}
@@ -12,7 +12,7 @@ use Rattle.plan.proofs.dictionaries.any_null.Statement.{statement}
 use Rattle.plan.proofs.dictionaries.any_null.Tie as tie
 
 abbrev Inv-loop : tie.InvT-loop
-Inv-loop sources lengths places body m i s₀ s = (s ≤ m) × (anyNull s (arrayAt (tables lengths places body) sources i) ≡ false)
+Inv-loop sources lengths places body m i s₀ s = (s ≤ m) × (keeps false s (arrayAt (tables lengths places body) sources i) ≡ false)
 
 abbrev μ-loop : tie.MeasureT-loop
 μ-loop sources lengths places body m i s₀ s = m - s

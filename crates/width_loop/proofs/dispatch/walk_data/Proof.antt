@@ -4,7 +4,7 @@ use native.Mathlib.Omega.{arith}
 use Rattle.columnar.specs.Array.{ok}
 use Rattle.schema.specs.formats.Code.{isFixed, isString, isView}
 use Rattle.array_data.specs.Tables.{place, validOf}
-use Rattle.array_data.specs.Typed.{viewNode}
+use Rattle.array_data.specs.NodeKinds.{viewNode}
 use Rattle.array_data.specs.entries.Entries.{column}
 use Rattle.array_data.specs.type_tree.Lent.{treeOf}
 use Rattle.source_rules.proofs.Node.{told}

@@ -7,7 +7,7 @@ use Rattle.columnar.specs.Plain.{OffsetsRule}
 use Rattle.schema.specs.formats.Code.{widthOf}
 use Rattle.schema.specs.Tree.{codeOf}
 use Rattle.array_data.specs.Tables.{lengthOf, validOf, firstBuffer}
-use Rattle.array_data.specs.Typed.{listNode}
+use Rattle.array_data.specs.NodeKinds.{listNode}
 use Rattle.array_data.specs.entries.Entries.{column}
 use Rattle.array_data.specs.type_tree.Lent.{treeOf}
 use Rattle.leaf_walk.proofs.Widths.{lists-width}

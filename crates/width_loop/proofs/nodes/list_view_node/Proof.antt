@@ -7,7 +7,7 @@ use Rattle.columnar.specs.Array.{item, ok}
 use Rattle.schema.specs.formats.Code.{widthOf}
 use Rattle.schema.specs.Tree.{codeOf}
 use Rattle.array_data.specs.Tables.{place, lengthOf, validOf, firstBuffer, secondBuffer}
-use Rattle.array_data.specs.Typed.{listViewNode}
+use Rattle.array_data.specs.NodeKinds.{listViewNode}
 use Rattle.array_data.specs.entries.Entries.{column}
 use Rattle.array_data.specs.type_tree.Lent.{treeOf}
 use Rattle.leaf_walk.proofs.Widths.{list-width}

@@ -5,12 +5,12 @@ use native.Mathlib.Omega.{arith}
 use Rattle.columnar.specs.Types.{width}
 use Rattle.columnar.specs.Array.{ok}
 use Rattle.schema.specs.formats.Code.{isInteger, widthOf}
-use Rattle.schema.specs.formats.Types.{numberOf}
+use Rattle.schema.specs.formats.Types.{numberOf, numberOr}
 use Rattle.schema.specs.Tree.{dictionary, codeOf}
 use Rattle.array_data.specs.Tables.{place, validOf}
-use Rattle.array_data.specs.Typed.{fixedNode, dictionaryNode}
+use Rattle.array_data.specs.NodeKinds.{fixedNode, dictionaryNode}
 use Rattle.array_data.specs.entries.Entries.{column}
-use Rattle.array_data.specs.type_tree.Lent.{numberOr, treeOf}
+use Rattle.array_data.specs.type_tree.Lent.{treeOf}
 use Rattle.leaf_walk.proofs.Widths.{fixed-width}
 use Rattle.width_loop.proofs.Laws.{slots-in}
 use Rattle.width_loop.proofs.Rules.{mask-less, fixed-here, key-here}

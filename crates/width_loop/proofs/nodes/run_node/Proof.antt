@@ -8,7 +8,7 @@ use Rattle.columnar.specs.Array.{ok}
 use Rattle.schema.specs.formats.Code.{widthOf}
 use Rattle.schema.specs.Tree.{codeOf}
 use Rattle.array_data.specs.Tables.{validOf}
-use Rattle.array_data.specs.Typed.{fixedNode, runEndNode}
+use Rattle.array_data.specs.NodeKinds.{fixedNode, runEndNode}
 use Rattle.array_data.specs.entries.Entries.{column}
 use Rattle.array_data.specs.type_tree.Lent.{treeOf}
 use Rattle.width_loop.proofs.Rules.{fixed-inside, run-here}

@@ -6,7 +6,8 @@ use lib.Dec.{eqb}
 use Rattle.columnar.specs.Array.{ok}
 use Rattle.schema.specs.Tree.{idsOf}
 use Rattle.array_data.specs.Tables.{validOf}
-use Rattle.array_data.specs.Typed.{sparseNode, denseNode, nodeOf}
+use Rattle.array_data.specs.NodeKinds.{sparseNode, denseNode}
+use Rattle.array_data.specs.Typed.{nodeOf}
 use Rattle.array_data.specs.entries.Entries.{column}
 use Rattle.array_data.specs.type_tree.Lent.{treeOf}
 use Rattle.array_data.proofs.type_tree.Shaped.{at-union}
