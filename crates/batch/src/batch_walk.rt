@@ -3,11 +3,10 @@
 
 ghost use mathlib.Core.Path.{_≡_};
 ghost use mathlib.Core.Bool.{true};
-ghost use mathlib.Core.List.{List};
 ghost use Prim.Native.Nat.{ℕ, _+_, _<_, _^_};
+ghost use Rattle.clauses.specs.Slices.{was};
 ghost use Rattle.walk.specs.State.{codeOf};
-ghost use Rattle.walk.specs.Log.{Did};
-ghost use Rattle.leaf_walk.specs.Join.{join};
+ghost use Rattle.leaf_walk.specs.Walks.{lentJoin, Walks};
 ghost use Rattle.batch.specs.Batch.{batchLeaf, batchData, batchWalk};
 ghost use Rattle.batch.specs.batch_walk.Plain.{isFlat, isListed, flatBelow, isStretched};
 use crate::dense_union;
@@ -20,7 +19,7 @@ use walk::plan_words;
 // Whether node k is of numbers or byte strings, and keeps no nulls.
 fn is_flat(plan: &[u64], k: usize) -> bool
     requires { ⌜ k < 32 ⌝ }
-    ensures { λ r. ⌜ r ≡ isFlat (now (plan .entry)) k ⌝ }
+    ensures { λ r. ⌜ r ≡ isFlat (was plan) k ⌝ }
 {
     if texts::is_text(plan, k) {
         return true;
@@ -30,7 +29,7 @@ fn is_flat(plan: &[u64], k: usize) -> bool
 
 // Whether the nodes below the root are of numbers or byte strings, and keep no nulls.
 fn flat_below(plan: &[u64]) -> bool
-    ensures { λ r. ⌜ r ≡ flatBelow (now (plan .entry)) ⌝ }
+    ensures { λ r. ⌜ r ≡ flatBelow (was plan) ⌝ }
 {
     let end = plan_words::end_of(plan, 0);
     let mut k: usize = 1;
@@ -45,7 +44,7 @@ fn flat_below(plan: &[u64]) -> bool
 
 // Whether the root is a list-view that keeps no nulls, of numbers or byte strings that keep none.
 fn is_listed(plan: &[u64]) -> bool
-    ensures { λ r. ⌜ r ≡ isListed (now (plan .entry)) ⌝ }
+    ensures { λ r. ⌜ r ≡ isListed (was plan) ⌝ }
 {
     if !schema::formats::is_list_view(plan_words::code_of(plan, 0)) {
         return false;
@@ -58,7 +57,7 @@ fn is_listed(plan: &[u64]) -> bool
 
 // Whether the walk is written for a type: such a list-view, or a dense union of such nodes.
 pub fn is_stretched(plan: &[u64]) -> bool
-    ensures { λ r. ⌜ r ≡ isStretched (now (plan .entry)) ⌝ }
+    ensures { λ r. ⌜ r ≡ isStretched (was plan) ⌝ }
 {
     if plan_words::code_of(plan, 0) == 22 {
         return flat_below(plan);
@@ -81,7 +80,7 @@ fn copy_data(
     n: u64,
 ) -> u8
     requires { ⌜ (first < 2 ^ 32) × (slot + n < 2 ^ 63) × (isStretched (now plan) ≡ true) ⌝ }
-    ensures { λ g. ⌜ ((source : ℕ) → Did (now (plan .entry)) (now (parts .entry)) write (batchData (join (now (plan .entry)) (now (parts .entry)) (now (lengths .entry)) (now (places .entry)) (now (body .entry)) first source) (batchLeaf (join (now (plan .entry)) (now (parts .entry)) (now (lengths .entry)) (now (places .entry)) (now (body .entry)) first source)) (codeOf (now (plan .entry)) 0) 0 slot n (now (counters .entry))) (now (room .entry)) g (now (counters .exit)) (now (room .exit))) ⌝ }
+    ensures { λ g. ⌜ ((source : ℕ) → let j = lentJoin plan parts lengths places body first source in Walks plan parts write (batchData j (batchLeaf j) (codeOf (was plan) 0) 0 slot n) counters room g) ⌝ }
 {
     if plan_words::code_of(plan, 0) == 22 {
         return dense_union::copy_dense(
@@ -132,7 +131,7 @@ pub fn copy_by_stretches(
     n: u64,
 ) -> u8
     requires { ⌜ (first < 2 ^ 32) × (isStretched (now plan) ≡ true) ⌝ }
-    ensures { λ g. ⌜ ((source : ℕ) → Did (now (plan .entry)) (now (parts .entry)) write (batchWalk (join (now (plan .entry)) (now (parts .entry)) (now (lengths .entry)) (now (places .entry)) (now (body .entry)) first source) 0 a n (now (counters .entry))) (now (room .entry)) g (now (counters .exit)) (now (room .exit))) ⌝ }
+    ensures { λ g. ⌜ ((source : ℕ) → Walks plan parts write (batchWalk (lentJoin plan parts lengths places body first source) 0 a n) counters room g) ⌝ }
 {
     let slot = lookups::slot_of(lengths, first, 0, a, n);
     if plan_words::FAR <= slot {

@@ -4,11 +4,13 @@ ghost use mathlib.Core.Bool.{true, not, _&&_};
 ghost use mathlib.Core.List.{List, []};
 ghost use Prim.Native.Nat.{ℕ, suc, _+_, _*_, _-_, _<_, _≤_, _^_};
 ghost use lib.ListN.{length};
+ghost use Rattle.clauses.specs.Slices.{was};
 ghost use Rattle.number.specs.Number.{entry};
 ghost use Rattle.walk.specs.State.{endOf, place};
-ghost use Rattle.walk.specs.Log.{Out, Did};
+ghost use Rattle.walk.specs.Log.{Out};
 ghost use Rattle.leaf_walk.specs.Join.{join};
-ghost use Rattle.batch.specs.Stretch.{sumOf, stretch, stretches};
+ghost use Rattle.leaf_walk.specs.Walks.{lentJoin, Walks};
+ghost use Rattle.batch.specs.Stretch.{sumOf, stretches};
 ghost use Rattle.batch.specs.Dense.{batchFields, batchDense};
 ghost use Rattle.batch.specs.Batch.{batchLeaf};
 ghost use Rattle.batch.specs.batch_walk.Plain.{isPlain, isFlat, reached};
@@ -45,7 +47,7 @@ fn copy_stretches(
 ) -> u8
     requires { ⌜ (first < 2 ^ 32) × (k < 32) × (isPlain (now plan) k ≡ true) ⌝ }
     requires { ⌜ (ids + (slot + n) ≤ length (now body)) × (positions + 4 * (slot + n) ≤ length (now body)) × (slot + n < 2 ^ 63) ⌝ }
-    ensures { λ g. ⌜ ((source : ℕ) → Did (now (plan .entry)) (now (parts .entry)) write (stretches (λ a m d. batchLeaf (join (now (plan .entry)) (now (parts .entry)) (now (lengths .entry)) (now (places .entry)) (now (body .entry)) first source) k a m d) (takesFrom (λ r. homeBy (now (homes .entry)) (now (body .entry)) (ids + (slot + r))) (λ r. entry 4 (now (body .entry)) positions (slot + r)) k) (takesOf (λ r. homeBy (now (homes .entry)) (now (body .entry)) (ids + (slot + r))) k) n (now (counters .entry))) (now (room .entry)) g (now (counters .exit)) (now (room .exit))) ⌝ }
+    ensures { λ g. ⌜ ((source : ℕ) → Walks plan parts write (stretches (λ a m d. batchLeaf (lentJoin plan parts lengths places body first source) k a m d) (takesFrom (λ r. homeBy (was homes) (was body) (ids + (slot + r))) (λ r. entry 4 (was body) positions (slot + r)) k) (takesOf (λ r. homeBy (was homes) (was body) (ids + (slot + r))) k) n) counters room g) ⌝ }
 {
     let w = lookups::width_at(plan, k);
     let mut a: u64 = 0;
@@ -93,7 +95,7 @@ fn all_reached(
     end: u64,
 ) -> bool
     requires { ⌜ (first < 2 ^ 32) × (k < 32) × (w ≤ 16) ⌝ }
-    ensures { λ r. ⌜ ((plan parts : List ℕ) (source : ℕ) → r ≡ (not write && reached (join plan parts (now (lengths .entry)) (now (places .entry)) (now (body .entry)) first source) k w end)) ⌝ }
+    ensures { λ r. ⌜ ((plan parts : List ℕ) (source : ℕ) → r ≡ (not write && reached (join plan parts (was lengths) (was places) (was body) first source) k w end)) ⌝ }
 {
     if write {
         return false;
@@ -127,7 +129,7 @@ fn copy_child(
     requires { ⌜ (ids + (slot + n) ≤ length (now body)) × (positions + 4 * (slot + n) ≤ length (now body)) × (slot + n < 2 ^ 63) ⌝ }
     requires { ⌜ (total ≡ sumOf (takesOf (λ r. homeBy (now homes) (now body) (ids + (slot + r))) k) n) × (end ≡ furthestOf (λ q. takesFrom (λ r. homeBy (now homes) (now body) (ids + (slot + r))) (λ r. entry 4 (now body) positions (slot + r)) k q + takesOf (λ r. homeBy (now homes) (now body) (ids + (slot + r))) k q) n) ⌝ }
     requires { ⌜ (whole ≡ true → (walk : ℕ → ℕ → List ℕ → Out) (c : List ℕ) → stretches walk (takesFrom (λ r. homeBy (now homes) (now body) (ids + (slot + r))) (λ r. entry 4 (now body) positions (slot + r)) k) (takesOf (λ r. homeBy (now homes) (now body) (ids + (slot + r))) k) n c ≡ walk begin total c) ⌝ }
-    ensures { λ g. ⌜ ((source : ℕ) → Did (now (plan .entry)) (now (parts .entry)) write (stretches (λ a m d. batchLeaf (join (now (plan .entry)) (now (parts .entry)) (now (lengths .entry)) (now (places .entry)) (now (body .entry)) first source) k a m d) (takesFrom (λ r. homeBy (now (homes .entry)) (now (body .entry)) (ids + (slot + r))) (λ r. entry 4 (now (body .entry)) positions (slot + r)) k) (takesOf (λ r. homeBy (now (homes .entry)) (now (body .entry)) (ids + (slot + r))) k) n (now (counters .entry))) (now (room .entry)) g (now (counters .exit)) (now (room .exit))) ⌝ }
+    ensures { λ g. ⌜ ((source : ℕ) → Walks plan parts write (stretches (λ a m d. batchLeaf (lentJoin plan parts lengths places body first source) k a m d) (takesFrom (λ r. homeBy (was homes) (was body) (ids + (slot + r))) (λ r. entry 4 (was body) positions (slot + r)) k) (takesOf (λ r. homeBy (was homes) (was body) (ids + (slot + r))) k) n) counters room g) ⌝ }
 {
     if texts::is_text(plan, k) {
         return dense_texts::copy_texts(
@@ -241,7 +243,7 @@ fn copy_children(
     requires { ⌜ (ids + (slot + n) ≤ length (now body)) × (positions + 4 * (slot + n) ≤ length (now body)) × (slot + n < 2 ^ 63) ⌝ }
     requires { ⌜ Homed (now plan) i (now homes) × (ids ≡ place (join [] [] [] (now places) [] first 0) i 3) × (positions ≡ place (join [] [] [] (now places) [] first 0) i 5) ⌝ }
     requires { ⌜ Fallen (λ r. homeBy (now homes) (now body) (ids + (slot + r))) (λ r. entry 4 (now body) positions (slot + r)) n n whole (now begins) (now taken) (now ends) ⌝ }
-    ensures { λ g. ⌜ ((source : ℕ) → Did (now (plan .entry)) (now (parts .entry)) write (batchFields (join (now (plan .entry)) (now (parts .entry)) (now (lengths .entry)) (now (places .entry)) (now (body .entry)) first source) (batchLeaf (join (now (plan .entry)) (now (parts .entry)) (now (lengths .entry)) (now (places .entry)) (now (body .entry)) first source)) i slot n (endOf (now (plan .entry)) i) 32 (suc i) (now (counters .entry))) (now (room .entry)) g (now (counters .exit)) (now (room .exit))) ⌝ }
+    ensures { λ g. ⌜ ((source : ℕ) → let j = lentJoin plan parts lengths places body first source in Walks plan parts write (batchFields j (batchLeaf j) i slot n (endOf (was plan) i) 32 (suc i)) counters room g) ⌝ }
 {
     let last = plan_words::end_of(plan, i);
     let mut k = i + 1;
@@ -303,7 +305,7 @@ pub fn copy_dense(
     n: u64,
 ) -> u8
     requires { ⌜ (first < 2 ^ 32) × (i < 32) × (slot + n < 2 ^ 63) × ((j : ℕ) → i < j → j < endOf (now plan) i → isFlat (now plan) j ≡ true) ⌝ }
-    ensures { λ g. ⌜ ((source : ℕ) → Did (now (plan .entry)) (now (parts .entry)) write (batchDense (join (now (plan .entry)) (now (parts .entry)) (now (lengths .entry)) (now (places .entry)) (now (body .entry)) first source) (batchLeaf (join (now (plan .entry)) (now (parts .entry)) (now (lengths .entry)) (now (places .entry)) (now (body .entry)) first source)) i slot n (now (counters .entry))) (now (room .entry)) g (now (counters .exit)) (now (room .exit))) ⌝ }
+    ensures { λ g. ⌜ ((source : ℕ) → let j = lentJoin plan parts lengths places body first source in Walks plan parts write (batchDense j (batchLeaf j) i slot n) counters room g) ⌝ }
 {
     if !list_view::is_owned(plan, i) {
         return 12;

@@ -4,11 +4,12 @@ ghost use mathlib.Core.Bool.{true, false, cond};
 ghost use Prim.Native.Nat.{ℕ, _+_, _*_, _<_, _≤_, _^_};
 ghost use lib.ListN.{length, take, drop};
 ghost use lib.Dec.{eqb};
+ghost use Rattle.clauses.specs.Slices.{was, left};
 ghost use Rattle.number.specs.Number.{entry, splice};
 ghost use Rattle.utils.specs.Pieces.{pieces};
 ghost use Rattle.walk.specs.State.{bytesOf, addRows};
 ghost use Rattle.walk.specs.Log.{Did};
-ghost use Rattle.leaf_walk.specs.Join.{join};
+ghost use Rattle.leaf_walk.specs.Walks.{lentJoin};
 ghost use Rattle.batch.specs.Stretch.{sumOf, stretches};
 ghost use Rattle.batch.specs.Batch.{batchLeaf};
 ghost use Rattle.batch.specs.batch_walk.Plain.{isPlain};
@@ -23,7 +24,7 @@ use walk::plan_words;
 // An entry of w bytes of body at `from` into room at `to`.
 fn copy_entry(room: &mut [u8], to: usize, body: &[u8], from: usize, w: u64)
     requires { ⌜ (to + w ≤ length (now room)) × (from + w ≤ length (now body)) ⌝ }
-    ensures { λ _. ⌜ now (room .exit) ≡ splice to (take w (drop from (now (body .entry)))) (now (room .entry)) ⌝ }
+    ensures { λ _. ⌜ left room ≡ splice to (take w (drop from (was body))) (was room) ⌝ }
 {
     if w == 4 {
         number::write_u32(room, to, number::read_u32(body, from));
@@ -50,9 +51,9 @@ fn copy_row(
     k: usize,
 ) -> usize
     requires { ⌜ (ids + q < length (now body)) × (positions + 4 * (q + 1) ≤ length (now body)) × (q < 2 ^ 63) ⌝ }
-    requires { ⌜ (to + w * cond (eqb (homeBy (now homes) (now body) (ids + q)) k) 1 0 ≤ length (now room)) × (at + w * (cond (eqb (homeBy (now homes) (now body) (ids + q)) k) (entry 4 (now body) positions q) 0 + cond (eqb (homeBy (now homes) (now body) (ids + q)) k) 1 0) ≤ length (now body)) ⌝ }
-    ensures { λ r. ⌜ r ≡ w * cond (eqb (homeBy (now (homes .entry)) (now (body .entry)) (ids + q)) k) 1 0 ⌝ }
-    ensures { λ _. ⌜ now (room .exit) ≡ splice to (take (w * cond (eqb (homeBy (now (homes .entry)) (now (body .entry)) (ids + q)) k) 1 0) (drop (at + w * cond (eqb (homeBy (now (homes .entry)) (now (body .entry)) (ids + q)) k) (entry 4 (now (body .entry)) positions q) 0) (now (body .entry)))) (now (room .entry)) ⌝ }
+    requires { let e = eqb (homeBy (now homes) (now body) (ids + q)) k in ⌜ (to + w * cond e 1 0 ≤ length (now room)) × (at + w * (cond e (entry 4 (now body) positions q) 0 + cond e 1 0) ≤ length (now body)) ⌝ }
+    ensures { λ r. ⌜ r ≡ w * cond (eqb (homeBy (was homes) (was body) (ids + q)) k) 1 0 ⌝ }
+    ensures { λ _. let e = eqb (homeBy (was homes) (was body) (ids + q)) k in ⌜ left room ≡ splice to (take (w * cond e 1 0) (drop (at + w * cond e (entry 4 (was body) positions q) 0) (was body))) (was room) ⌝ }
 {
     if homes::home_at(homes, body, ids + q) as usize != k {
         return 0;
@@ -79,7 +80,7 @@ fn copy_taken(
 )
     requires { ⌜ (ids + (slot + n) ≤ length (now body)) × (positions + 4 * (slot + n) ≤ length (now body)) × (slot + n < 2 ^ 63) ⌝ }
     requires { ⌜ (to + w * sumOf (takesOf (λ r. homeBy (now homes) (now body) (ids + (slot + r))) k) n ≤ length (now room)) × ((r : ℕ) → r < n → at + w * (takesFrom (λ q. homeBy (now homes) (now body) (ids + (slot + q))) (λ q. entry 4 (now body) positions (slot + q)) k r + takesOf (λ q. homeBy (now homes) (now body) (ids + (slot + q))) k r) ≤ length (now body)) ⌝ }
-    ensures { λ _. ⌜ now (room .exit) ≡ splice to (pieces (λ r. take (w * takesOf (λ q. homeBy (now (homes .entry)) (now (body .entry)) (ids + (slot + q))) k r) (drop (at + w * takesFrom (λ q. homeBy (now (homes .entry)) (now (body .entry)) (ids + (slot + q))) (λ q. entry 4 (now (body .entry)) positions (slot + q)) k r) (now (body .entry)))) n) (now (room .entry)) ⌝ }
+    ensures { λ _. ⌜ left room ≡ splice to (pieces (λ r. take (w * takesOf (λ q. homeBy (was homes) (was body) (ids + (slot + q))) k r) (drop (at + w * takesFrom (λ q. homeBy (was homes) (was body) (ids + (slot + q))) (λ q. entry 4 (was body) positions (slot + q)) k r) (was body))) n) (was room) ⌝ }
 {
     let mut to = to;
     let mut r: u64 = 0;
@@ -120,8 +121,8 @@ pub fn put_taken(
     requires { ⌜ (first < 2 ^ 32) × (k < 32) × (w ≡ bytesOf (now plan) k) × (isPlain (now plan) k ≡ true) ⌝ }
     requires { ⌜ (ids + (slot + n) ≤ length (now body)) × (positions + 4 * (slot + n) ≤ length (now body)) × (slot + n < 2 ^ 63) ⌝ }
     requires { ⌜ (total ≡ sumOf (takesOf (λ r. homeBy (now homes) (now body) (ids + (slot + r))) k) n) × (end ≡ furthestOf (λ q. takesFrom (λ r. homeBy (now homes) (now body) (ids + (slot + r))) (λ r. entry 4 (now body) positions (slot + r)) k q + takesOf (λ r. homeBy (now homes) (now body) (ids + (slot + r))) k q) n) ⌝ }
-    ensures { λ r. ⌜ (r ≡ false → now (room .exit) ≡ now (room .entry)) ⌝ }
-    ensures { λ r. ⌜ (r ≡ true → (source : ℕ) → Did (now (plan .entry)) (now (parts .entry)) write (stretches (λ a m d. batchLeaf (join (now (plan .entry)) (now (parts .entry)) (now (lengths .entry)) (now (places .entry)) (now (body .entry)) first source) k a m d) (takesFrom (λ q. homeBy (now (homes .entry)) (now (body .entry)) (ids + (slot + q))) (λ q. entry 4 (now (body .entry)) positions (slot + q)) k) (takesOf (λ q. homeBy (now (homes .entry)) (now (body .entry)) (ids + (slot + q))) k) n (now (counters .entry))) (now (room .entry)) 0 (addRows k total (now (counters .entry))) (now (room .exit))) ⌝ }
+    ensures { λ r. ⌜ (r ≡ false → left room ≡ was room) ⌝ }
+    ensures { λ r. ⌜ (r ≡ true → (source : ℕ) → Did (was plan) (was parts) write (stretches (λ a m d. batchLeaf (lentJoin plan parts lengths places body first source) k a m d) (takesFrom (λ q. homeBy (was homes) (was body) (ids + (slot + q))) (λ q. entry 4 (was body) positions (slot + q)) k) (takesOf (λ q. homeBy (was homes) (was body) (ids + (slot + q))) k) n (was counters)) (was room) 0 (addRows k total (was counters)) (left room)) ⌝ }
 {
     if !numbers::reaches(lengths, places, body, first, k, w, end) {
         return false;

@@ -5,6 +5,7 @@ ghost use mathlib.Core.List.{List};
 ghost use Prim.Native.Nat.{ℕ, _+_, _*_, _-_, _<_, _≤_, _^_};
 ghost use lib.ListN.{length};
 ghost use lib.Dec.{eqb};
+ghost use Rattle.clauses.specs.Slices.{was};
 ghost use Rattle.number.specs.Number.{entry};
 ghost use Rattle.walk.specs.Log.{Out};
 ghost use Rattle.batch.specs.Stretch.{stretch};
@@ -27,7 +28,7 @@ fn first_of(had: u8, k: u8) -> u8
 // The child of each id; 32 where there is none.
 pub fn homes_of(plan: &[u64], i: usize) -> [u8; 256]
     requires { ⌜ i < 32 ⌝ }
-    ensures { λ r. ⌜ Homed (now (plan .entry)) i r ⌝ }
+    ensures { λ r. ⌜ Homed (was plan) i r ⌝ }
 {
     let mut homes = [32u8; 256];
     let end = plan_words::end_of(plan, i);
@@ -48,7 +49,7 @@ pub fn homes_of(plan: &[u64], i: usize) -> [u8; 256]
 // The child of the id at byte q.
 pub fn home_at(homes: &[u8; 256], body: &[u8], q: u64) -> u8
     requires { ⌜ q < length (now body) ⌝ }
-    ensures { λ r. ⌜ r ≡ homeBy (now (homes .entry)) (now (body .entry)) q ⌝ }
+    ensures { λ r. ⌜ r ≡ homeBy (was homes) (was body) q ⌝ }
 {
     let id = number::read_u8(body, q as usize);
     homes[id as usize]
@@ -57,7 +58,7 @@ pub fn home_at(homes: &[u8; 256], body: &[u8], q: u64) -> u8
 // The position of row q, among those at `at`.
 pub fn position_at(body: &[u8], at: u64, q: u64) -> u32
     requires { ⌜ at + 4 * (q + 1) ≤ length (now body) ⌝ }
-    ensures { λ r. ⌜ r ≡ entry 4 (now (body .entry)) at q ⌝ }
+    ensures { λ r. ⌜ r ≡ entry 4 (was body) at q ⌝ }
 {
     number::read_u32(body, (at as usize) + 4 * (q as usize))
 }
@@ -65,7 +66,7 @@ pub fn position_at(body: &[u8], at: u64, q: u64) -> u32
 // Where child k takes row q from; 0 if it does not.
 pub fn start_at(homes: &[u8; 256], body: &[u8], ids: u64, positions: u64, q: u64, k: usize) -> u64
     requires { ⌜ (ids + q < length (now body)) × (positions + 4 * (q + 1) ≤ length (now body)) ⌝ }
-    ensures { λ r. ⌜ r ≡ cond (eqb (homeBy (now (homes .entry)) (now (body .entry)) (ids + q)) k) (entry 4 (now (body .entry)) positions q) 0 ⌝ }
+    ensures { λ r. ⌜ r ≡ cond (eqb (homeBy (was homes) (was body) (ids + q)) k) (entry 4 (was body) positions q) 0 ⌝ }
 {
     if home_at(homes, body, ids + q) as usize != k {
         return 0;
@@ -76,7 +77,7 @@ pub fn start_at(homes: &[u8; 256], body: &[u8], ids: u64, positions: u64, q: u64
 // 1 if child k takes row q, else 0.
 pub fn size_at(homes: &[u8; 256], body: &[u8], ids: u64, q: u64, k: usize) -> u64
     requires { ⌜ ids + q < length (now body) ⌝ }
-    ensures { λ r. ⌜ r ≡ cond (eqb (homeBy (now (homes .entry)) (now (body .entry)) (ids + q)) k) 1 0 ⌝ }
+    ensures { λ r. ⌜ r ≡ cond (eqb (homeBy (was homes) (was body) (ids + q)) k) 1 0 ⌝ }
 {
     if home_at(homes, body, ids + q) as usize != k {
         return 0;
@@ -98,9 +99,9 @@ pub fn advance(
     m: u64,
 ) -> Stretch
     requires { ⌜ (ids + (slot + n) ≤ length (now body)) × (positions + 4 * (slot + n) ≤ length (now body)) × (slot + n < 2 ^ 63) × (from ≤ n) × (m ≤ from) ⌝ }
-    ensures { λ t. ⌜ ((walk : ℕ → ℕ → List ℕ → Out) (c : List ℕ) → stretch walk (takesFrom (λ r. homeBy (now (homes .entry)) (now (body .entry)) (ids + (slot + r))) (λ r. entry 4 (now (body .entry)) positions (slot + r)) k) (takesOf (λ r. homeBy (now (homes .entry)) (now (body .entry)) (ids + (slot + r))) k) (n - from) from a m c ≡ stretch walk (takesFrom (λ r. homeBy (now (homes .entry)) (now (body .entry)) (ids + (slot + r))) (λ r. entry 4 (now (body .entry)) positions (slot + r)) k) (takesOf (λ r. homeBy (now (homes .entry)) (now (body .entry)) (ids + (slot + r))) k) (n - t .next) (t .next) (t .a) (t .m) c) ⌝ }
+    ensures { λ t. ⌜ ((walk : ℕ → ℕ → List ℕ → Out) (c : List ℕ) → stretch walk (takesFrom (λ r. homeBy (was homes) (was body) (ids + (slot + r))) (λ r. entry 4 (was body) positions (slot + r)) k) (takesOf (λ r. homeBy (was homes) (was body) (ids + (slot + r))) k) (n - from) from a m c ≡ stretch walk (takesFrom (λ r. homeBy (was homes) (was body) (ids + (slot + r))) (λ r. entry 4 (was body) positions (slot + r)) k) (takesOf (λ r. homeBy (was homes) (was body) (ids + (slot + r))) k) (n - t .next) (t .next) (t .a) (t .m) c) ⌝ }
     ensures { λ t. ⌜ (t .next ≤ n) × (from ≤ t .next) ⌝ }
-    ensures { λ t. ⌜ ((t .next ≡ n → ⊥) → (sideOf (t .a) (t .m) (takesFrom (λ r. homeBy (now (homes .entry)) (now (body .entry)) (ids + (slot + r))) (λ r. entry 4 (now (body .entry)) positions (slot + r)) k (t .next)) (takesOf (λ r. homeBy (now (homes .entry)) (now (body .entry)) (ids + (slot + r))) k (t .next)) ≡ 3)) ⌝ }
+    ensures { λ t. ⌜ ((t .next ≡ n → ⊥) → (sideOf (t .a) (t .m) (takesFrom (λ r. homeBy (was homes) (was body) (ids + (slot + r))) (λ r. entry 4 (was body) positions (slot + r)) k (t .next)) (takesOf (λ r. homeBy (was homes) (was body) (ids + (slot + r))) k (t .next)) ≡ 3)) ⌝ }
 {
     let mut b = a;
     let mut p = m;

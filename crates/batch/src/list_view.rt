@@ -1,15 +1,16 @@
 // A list-view by stretches of its child.
 ghost use mathlib.Core.Path.{_≡_};
-ghost use mathlib.Core.Bool.{Bool, true, not, _&&_};
+ghost use mathlib.Core.Bool.{true, not, _&&_};
 ghost use mathlib.Core.List.{List, []};
 ghost use Prim.Native.Nat.{ℕ, suc, _+_, _*_, _-_, _<_, _≤_, _^_};
 ghost use lib.ListN.{length};
 ghost use lib.Dec.{ltb};
+ghost use Rattle.clauses.specs.Slices.{was};
 ghost use Rattle.number.specs.Number.{entry};
-ghost use Rattle.walk.specs.State.{codeOf, bytesOf, place};
-ghost use Rattle.walk.specs.Log.{Out, Did};
+ghost use Rattle.walk.specs.State.{place};
 ghost use Rattle.leaf_walk.specs.Join.{join};
-ghost use Rattle.batch.specs.Stretch.{sumOf, stretch, stretches};
+ghost use Rattle.leaf_walk.specs.Walks.{lentJoin, Walks};
+ghost use Rattle.batch.specs.Stretch.{sumOf, stretches};
 ghost use Rattle.batch.specs.Batch.{owned, batchLeaf, batchListView};
 ghost use Rattle.batch.specs.batch_walk.Plain.{isPlain, isFlat, reached};
 ghost use Rattle.batch.specs.batch_walk.Side.{furthestOf};
@@ -26,7 +27,7 @@ use walk::plan_words;
 // Whether the plan counts node i, and its buffers have parts.
 pub fn is_owned(plan: &[u64], i: usize) -> bool
     requires { ⌜ i < 32 ⌝ }
-    ensures { λ r. ⌜ r ≡ owned (now (plan .entry)) i ⌝ }
+    ensures { λ r. ⌜ r ≡ owned (was plan) i ⌝ }
 {
     if plan::parts::node_count(plan) <= i {
         return false;
@@ -37,7 +38,7 @@ pub fn is_owned(plan: &[u64], i: usize) -> bool
 // Whether it does of node i and of node i + 1, its child.
 fn has_child(plan: &[u64], i: usize) -> bool
     requires { ⌜ i < 32 ⌝ }
-    ensures { λ r. ⌜ r ≡ (ltb (suc i) 32 && (owned (now (plan .entry)) i && owned (now (plan .entry)) (suc i))) ⌝ }
+    ensures { λ r. ⌜ r ≡ (ltb (suc i) 32 && (owned (was plan) i && owned (was plan) (suc i))) ⌝ }
 {
     if 31 <= i {
         return false;
@@ -68,7 +69,7 @@ fn copy_number_stretches(
     requires { ⌜ (place (join [] [] [] (now places) [] first 0) i 3 + w * (slot + n) ≤ length (now body)) × (place (join [] [] [] (now places) [] first 0) i 5 + w * (slot + n) ≤ length (now body)) ⌝ }
     requires { ⌜ sumOf (λ q. entry w (now body) (place (join [] [] [] (now places) [] first 0) i 5) (slot + q)) n < 2 ^ 63 ⌝ }
     requires { ⌜ ((w ≡ 4 → ⊥) → w ≡ 8) ⌝ }
-    ensures { λ g. ⌜ ((source : ℕ) → Did (now (plan .entry)) (now (parts .entry)) write (stretches (λ a m d. batchLeaf (join (now (plan .entry)) (now (parts .entry)) (now (lengths .entry)) (now (places .entry)) (now (body .entry)) first source) (suc i) a m d) (λ r. entry w (now (body .entry)) (place (join (now (plan .entry)) (now (parts .entry)) (now (lengths .entry)) (now (places .entry)) (now (body .entry)) first source) i 3) (slot + r)) (λ r. entry w (now (body .entry)) (place (join (now (plan .entry)) (now (parts .entry)) (now (lengths .entry)) (now (places .entry)) (now (body .entry)) first source) i 5) (slot + r)) n (now (counters .entry))) (now (room .entry)) g (now (counters .exit)) (now (room .exit))) ⌝ }
+    ensures { λ g. ⌜ ((source : ℕ) → let j = lentJoin plan parts lengths places body first source in Walks plan parts write (stretches (λ a m d. batchLeaf j (suc i) a m d) (λ r. entry w (was body) (place j i 3) (slot + r)) (λ r. entry w (was body) (place j i 5) (slot + r)) n) counters room g) ⌝ }
 {
     let offsets = lent_tables::place(places, first + i, 3);
     let sizes = lent_tables::place(places, first + i, 5);
@@ -136,7 +137,7 @@ fn none_refused(
     requires { ⌜ (first < 2 ^ 32) × (i + 1 < 32) × (slot + n < 2 ^ 63) × (v ≤ 16) ⌝ }
     requires { ⌜ (place (join [] [] [] (now places) [] first 0) i 3 + w * (slot + n) ≤ length (now body)) × (place (join [] [] [] (now places) [] first 0) i 5 + w * (slot + n) ≤ length (now body)) ⌝ }
     requires { ⌜ ((w ≡ 4 → ⊥) → w ≡ 8) ⌝ }
-    ensures { λ r. ⌜ ((plan parts : List ℕ) (source : ℕ) → r ≡ (not write && reached (join plan parts (now (lengths .entry)) (now (places .entry)) (now (body .entry)) first source) (suc i) v (furthestOf (λ q. entry w (now (body .entry)) (place (join plan parts (now (lengths .entry)) (now (places .entry)) (now (body .entry)) first source) i 3) (slot + q) + entry w (now (body .entry)) (place (join plan parts (now (lengths .entry)) (now (places .entry)) (now (body .entry)) first source) i 5) (slot + q)) n))) ⌝ }
+    ensures { λ r. ⌜ ((plan parts : List ℕ) (source : ℕ) → let j = join plan parts (was lengths) (was places) (was body) first source in r ≡ (not write && reached j (suc i) v (furthestOf (λ q. entry w (was body) (place j i 3) (slot + q) + entry w (was body) (place j i 5) (slot + q)) n))) ⌝ }
 {
     if write {
         return false;
@@ -166,9 +167,9 @@ fn copy_numbers(
 ) -> u8
     requires { ⌜ (first < 2 ^ 32) × (i + 1 < 32) × (slot + n < 2 ^ 63) × (isPlain (now plan) (suc i) ≡ true) ⌝ }
     requires { ⌜ (place (join [] [] [] (now places) [] first 0) i 3 + w * (slot + n) ≤ length (now body)) × (place (join [] [] [] (now places) [] first 0) i 5 + w * (slot + n) ≤ length (now body)) ⌝ }
-    requires { ⌜ (sumOf (λ q. entry w (now body) (place (join [] [] [] (now places) [] first 0) i 5) (slot + q)) n < 2 ^ 63) × (total ≡ sumOf (λ q. entry w (now body) (place (join [] [] [] (now places) [] first 0) i 5) (slot + q)) n) ⌝ }
+    requires { let p = place (join [] [] [] (now places) [] first 0) i 5 in ⌜ (sumOf (λ q. entry w (now body) p (slot + q)) n < 2 ^ 63) × (total ≡ sumOf (λ q. entry w (now body) p (slot + q)) n) ⌝ }
     requires { ⌜ ((w ≡ 4 → ⊥) → w ≡ 8) ⌝ }
-    ensures { λ g. ⌜ ((source : ℕ) → Did (now (plan .entry)) (now (parts .entry)) write (stretches (λ a m d. batchLeaf (join (now (plan .entry)) (now (parts .entry)) (now (lengths .entry)) (now (places .entry)) (now (body .entry)) first source) (suc i) a m d) (λ r. entry w (now (body .entry)) (place (join (now (plan .entry)) (now (parts .entry)) (now (lengths .entry)) (now (places .entry)) (now (body .entry)) first source) i 3) (slot + r)) (λ r. entry w (now (body .entry)) (place (join (now (plan .entry)) (now (parts .entry)) (now (lengths .entry)) (now (places .entry)) (now (body .entry)) first source) i 5) (slot + r)) n (now (counters .entry))) (now (room .entry)) g (now (counters .exit)) (now (room .exit))) ⌝ }
+    ensures { λ g. ⌜ ((source : ℕ) → let j = lentJoin plan parts lengths places body first source in Walks plan parts write (stretches (λ a m d. batchLeaf j (suc i) a m d) (λ r. entry w (was body) (place j i 3) (slot + r)) (λ r. entry w (was body) (place j i 5) (slot + r)) n) counters room g) ⌝ }
 {
     let v = lookups::width_at(plan, i + 1);
     if none_refused(lengths, places, body, write, first, i, w, v, slot, n) {
@@ -235,9 +236,9 @@ fn copy_rows(
 ) -> u8
     requires { ⌜ (first < 2 ^ 32) × (i + 1 < 32) × (slot + n < 2 ^ 63) × (isFlat (now plan) (suc i) ≡ true) ⌝ }
     requires { ⌜ (place (join [] [] [] (now places) [] first 0) i 3 + w * (slot + n) ≤ length (now body)) × (place (join [] [] [] (now places) [] first 0) i 5 + w * (slot + n) ≤ length (now body)) ⌝ }
-    requires { ⌜ (sumOf (λ q. entry w (now body) (place (join [] [] [] (now places) [] first 0) i 5) (slot + q)) n < 2 ^ 63) × (total ≡ sumOf (λ q. entry w (now body) (place (join [] [] [] (now places) [] first 0) i 5) (slot + q)) n) ⌝ }
+    requires { let p = place (join [] [] [] (now places) [] first 0) i 5 in ⌜ (sumOf (λ q. entry w (now body) p (slot + q)) n < 2 ^ 63) × (total ≡ sumOf (λ q. entry w (now body) p (slot + q)) n) ⌝ }
     requires { ⌜ ((w ≡ 4 → ⊥) → w ≡ 8) ⌝ }
-    ensures { λ g. ⌜ ((source : ℕ) → Did (now (plan .entry)) (now (parts .entry)) write (stretches (λ a m d. batchLeaf (join (now (plan .entry)) (now (parts .entry)) (now (lengths .entry)) (now (places .entry)) (now (body .entry)) first source) (suc i) a m d) (λ r. entry w (now (body .entry)) (place (join (now (plan .entry)) (now (parts .entry)) (now (lengths .entry)) (now (places .entry)) (now (body .entry)) first source) i 3) (slot + r)) (λ r. entry w (now (body .entry)) (place (join (now (plan .entry)) (now (parts .entry)) (now (lengths .entry)) (now (places .entry)) (now (body .entry)) first source) i 5) (slot + r)) n (now (counters .entry))) (now (room .entry)) g (now (counters .exit)) (now (room .exit))) ⌝ }
+    ensures { λ g. ⌜ ((source : ℕ) → let j = lentJoin plan parts lengths places body first source in Walks plan parts write (stretches (λ a m d. batchLeaf j (suc i) a m d) (λ r. entry w (was body) (place j i 3) (slot + r)) (λ r. entry w (was body) (place j i 5) (slot + r)) n) counters room g) ⌝ }
 {
     if texts::is_text(plan, i + 1) {
         return text_lists::copy_stretches(
@@ -292,7 +293,7 @@ pub fn copy_list_view(
 ) -> u8
     requires { ⌜ (first < 2 ^ 32) × (i + 1 < 32) × (slot + n < 2 ^ 63) × (isFlat (now plan) (suc i) ≡ true) ⌝ }
     requires { ⌜ ((w ≡ 4 → ⊥) → w ≡ 8) ⌝ }
-    ensures { λ g. ⌜ ((source : ℕ) → Did (now (plan .entry)) (now (parts .entry)) write (batchListView (join (now (plan .entry)) (now (parts .entry)) (now (lengths .entry)) (now (places .entry)) (now (body .entry)) first source) (batchLeaf (join (now (plan .entry)) (now (parts .entry)) (now (lengths .entry)) (now (places .entry)) (now (body .entry)) first source)) w i slot n (now (counters .entry))) (now (room .entry)) g (now (counters .exit)) (now (room .exit))) ⌝ }
+    ensures { λ g. ⌜ ((source : ℕ) → let j = lentJoin plan parts lengths places body first source in Walks plan parts write (batchListView j (batchLeaf j) w i slot n) counters room g) ⌝ }
 {
     if !has_child(plan, i) {
         return 12;

@@ -3,11 +3,12 @@ ghost use mathlib.Core.Path.{_≡_};
 ghost use mathlib.Core.Bool.{true, false};
 ghost use Prim.Native.Nat.{ℕ, _+_, _*_, _<_, _≤_, _^_};
 ghost use lib.ListN.{length, take, drop};
+ghost use Rattle.clauses.specs.Slices.{was, left};
 ghost use Rattle.number.specs.Number.{entry, splice};
 ghost use Rattle.utils.specs.Pieces.{pieces};
 ghost use Rattle.walk.specs.State.{bytesOf, addRows};
 ghost use Rattle.walk.specs.Log.{Did};
-ghost use Rattle.leaf_walk.specs.Join.{join};
+ghost use Rattle.leaf_walk.specs.Walks.{lentJoin};
 ghost use Rattle.batch.specs.Stretch.{sumOf, stretches};
 ghost use Rattle.batch.specs.Batch.{batchLeaf};
 ghost use Rattle.batch.specs.batch_walk.Plain.{isPlain};
@@ -76,7 +77,7 @@ fn copy_listed(
     requires { ⌜ (offsets + w * (slot + n) ≤ length (now body)) × (sizes + w * (slot + n) ≤ length (now body)) × (slot + n < 2 ^ 63) ⌝ }
     requires { ⌜ ((w ≡ 4 → ⊥) → w ≡ 8) ⌝ }
     requires { ⌜ (to + v * sumOf (λ r. entry w (now body) sizes (slot + r)) n ≤ length (now room)) × ((r : ℕ) → r < n → at + v * (entry w (now body) offsets (slot + r) + entry w (now body) sizes (slot + r)) ≤ length (now body)) ⌝ }
-    ensures { λ _. ⌜ now (room .exit) ≡ splice to (pieces (λ r. take (v * entry w (now (body .entry)) sizes (slot + r)) (drop (at + v * entry w (now (body .entry)) offsets (slot + r)) (now (body .entry)))) n) (now (room .entry)) ⌝ }
+    ensures { λ _. ⌜ left room ≡ splice to (pieces (λ r. take (v * entry w (was body) sizes (slot + r)) (drop (at + v * entry w (was body) offsets (slot + r)) (was body))) n) (was room) ⌝ }
 {
     let mut to = to;
     let mut r: u64 = 0;
@@ -114,8 +115,8 @@ pub fn put_listed(
     requires { ⌜ (offsets + w * (slot + n) ≤ length (now body)) × (sizes + w * (slot + n) ≤ length (now body)) × (slot + n < 2 ^ 63) ⌝ }
     requires { ⌜ ((w ≡ 4 → ⊥) → w ≡ 8) ⌝ }
     requires { ⌜ total ≡ sumOf (λ r. entry w (now body) sizes (slot + r)) n ⌝ }
-    ensures { λ r. ⌜ (r ≡ false → now (room .exit) ≡ now (room .entry)) ⌝ }
-    ensures { λ r. ⌜ (r ≡ true → (source : ℕ) → Did (now (plan .entry)) (now (parts .entry)) write (stretches (λ a m d. batchLeaf (join (now (plan .entry)) (now (parts .entry)) (now (lengths .entry)) (now (places .entry)) (now (body .entry)) first source) k a m d) (λ q. entry w (now (body .entry)) offsets (slot + q)) (λ q. entry w (now (body .entry)) sizes (slot + q)) n (now (counters .entry))) (now (room .entry)) 0 (addRows k total (now (counters .entry))) (now (room .exit))) ⌝ }
+    ensures { λ r. ⌜ (r ≡ false → left room ≡ was room) ⌝ }
+    ensures { λ r. ⌜ (r ≡ true → (source : ℕ) → Did (was plan) (was parts) write (stretches (λ a m d. batchLeaf (lentJoin plan parts lengths places body first source) k a m d) (λ q. entry w (was body) offsets (slot + q)) (λ q. entry w (was body) sizes (slot + q)) n (was counters)) (was room) 0 (addRows k total (was counters)) (left room)) ⌝ }
 {
     if !is_shuffled(body, offsets, sizes, w, slot, n) {
         return false;

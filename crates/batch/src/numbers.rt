@@ -4,10 +4,12 @@ ghost use mathlib.Core.Bool.{true};
 ghost use mathlib.Core.List.{List, [], _∷_};
 ghost use Prim.Native.Nat.{ℕ, _+_, _*_, _<_, _≤_, _^_};
 ghost use lib.ListN.{length, take, drop};
+ghost use Rattle.clauses.specs.Slices.{was, left};
 ghost use Rattle.number.specs.Number.{splice};
 ghost use Rattle.walk.specs.State.{bytesOf};
-ghost use Rattle.walk.specs.Log.{Did, put, applyIf};
+ghost use Rattle.walk.specs.Log.{put, applyIf};
 ghost use Rattle.leaf_walk.specs.Join.{join};
+ghost use Rattle.leaf_walk.specs.Walks.{lentJoin, Walks};
 ghost use Rattle.batch.specs.Batch.{batchLeaf};
 ghost use Rattle.batch.specs.batch_walk.Plain.{isPlain, reached};
 use array_data::lent_tables;
@@ -17,7 +19,7 @@ use walk::plan_words;
 // m words of 4 bytes of body from `from` on into room at `at`.
 fn copy_words(room: &mut [u8], at: usize, body: &[u8], from: usize, m: usize)
     requires { ⌜ (at + 4 * m ≤ length (now room)) × (from + 4 * m ≤ length (now body)) ⌝ }
-    ensures { λ _. ⌜ now (room .exit) ≡ splice at (take (4 * m) (drop from (now (body .entry)))) (now (room .entry)) ⌝ }
+    ensures { λ _. ⌜ left room ≡ splice at (take (4 * m) (drop from (was body))) (was room) ⌝ }
 {
     let mut q = 0;
     while q < m {
@@ -29,7 +31,7 @@ fn copy_words(room: &mut [u8], at: usize, body: &[u8], from: usize, m: usize)
 // n bytes of body from `from` on into room at `at`, a few of them by words.
 pub fn copy_few(room: &mut [u8], at: usize, body: &[u8], from: usize, n: usize)
     requires { ⌜ (at + n ≤ length (now room)) × (from + n ≤ length (now body)) ⌝ }
-    ensures { λ _. ⌜ now (room .exit) ≡ splice at (take n (drop from (now (body .entry)))) (now (room .entry)) ⌝ }
+    ensures { λ _. ⌜ left room ≡ splice at (take n (drop from (was body))) (was room) ⌝ }
 {
     if 64 <= n {
         number::copy::copy_bytes(room, at, body, from, n);
@@ -55,7 +57,7 @@ fn put_few(
     n: u64,
 )
     requires { ⌜ (k < 32) × (from + n ≤ length (now body)) ⌝ }
-    ensures { λ _. ⌜ now (room .exit) ≡ applyIf (now (plan .entry)) (now (parts .entry)) write (put k 1 o (take n (drop from (now (body .entry)))) ∷ []) (now (room .entry)) ⌝ }
+    ensures { λ _. ⌜ left room ≡ applyIf (was plan) (was parts) write (put k 1 o (take n (drop from (was body))) ∷ []) (was room) ⌝ }
 {
     match plan_words::target(plan, parts, room.len(), write, k, 1, o, n) {
         plan_words::Goal::At(at) => copy_few(room, at, body, from, n as usize),
@@ -66,7 +68,7 @@ fn put_few(
 // Whether node k is of numbers, and keeps no nulls.
 pub fn is_plain(plan: &[u64], k: usize) -> bool
     requires { ⌜ k < 32 ⌝ }
-    ensures { λ r. ⌜ r ≡ isPlain (now (plan .entry)) k ⌝ }
+    ensures { λ r. ⌜ r ≡ isPlain (was plan) k ⌝ }
 {
     if !schema::formats::is_fixed(plan_words::code_of(plan, k)) {
         return false;
@@ -88,7 +90,7 @@ pub fn reaches(
     end: u64,
 ) -> bool
     requires { ⌜ (first < 2 ^ 32) × (k < 32) × (w ≤ 16) ⌝ }
-    ensures { λ r. ⌜ ((plan parts : List ℕ) (source : ℕ) → r ≡ reached (join plan parts (now (lengths .entry)) (now (places .entry)) (now (body .entry)) first source) k w end) ⌝ }
+    ensures { λ r. ⌜ ((plan parts : List ℕ) (source : ℕ) → r ≡ reached (join plan parts (was lengths) (was places) (was body) first source) k w end) ⌝ }
 {
     let slot = lookups::slot_of(lengths, first, k, end, 0);
     if plan_words::FAR <= slot {
@@ -114,7 +116,7 @@ pub fn copy_stretch(
     n: u64,
 ) -> u8
     requires { ⌜ (first < 2 ^ 32) × (k < 32) × (1 ≤ w) × (w ≤ 16) × (w ≡ bytesOf (now plan) k) × (isPlain (now plan) k ≡ true) ⌝ }
-    ensures { λ g. ⌜ ((source : ℕ) → Did (now (plan .entry)) (now (parts .entry)) write (batchLeaf (join (now (plan .entry)) (now (parts .entry)) (now (lengths .entry)) (now (places .entry)) (now (body .entry)) first source) k a n (now (counters .entry))) (now (room .entry)) g (now (counters .exit)) (now (room .exit))) ⌝ }
+    ensures { λ g. ⌜ ((source : ℕ) → Walks plan parts write (batchLeaf (lentJoin plan parts lengths places body first source) k a n) counters room g) ⌝ }
 {
     let slot = lookups::slot_of(lengths, first, k, a, n);
     if plan_words::FAR <= slot {

@@ -2,6 +2,7 @@
 ghost use mathlib.Core.Path.{_≡_};
 ghost use Prim.Native.Nat.{_<_};
 ghost use lib.Dec.{ltb};
+ghost use Rattle.clauses.specs.Slices.{was};
 ghost use Rattle.plan.specs.parts.Parts.{nodesOf};
 ghost use Rattle.walk.specs.State.{top};
 ghost use Rattle.batch.specs.batch_walk.Ends.{endBehind, endFrom};
@@ -11,7 +12,7 @@ use walk::plan_words;
 // Where the part of buffer b of node i ends, if it has one; the largest number if it starts before the byte `end`.
 fn end_behind(plan: &[u64], parts: &[u64], i: usize, b: usize, end: u64) -> u64
     requires { ⌜ (i < 32) × (b < 3) ⌝ }
-    ensures { λ r. ⌜ r ≡ endBehind (now (plan .entry)) (now (parts .entry)) i b end ⌝ }
+    ensures { λ r. ⌜ r ≡ endBehind (was plan) (was parts) i b end ⌝ }
 {
     if !plan::parts::has_part(plan, i, b) {
         return end;
@@ -26,7 +27,7 @@ fn end_behind(plan: &[u64], parts: &[u64], i: usize, b: usize, end: u64) -> u64
 
 // Whether each part starts at or behind the end of the one before, and the last ends below the largest number.
 pub fn parts_rise(plan: &[u64], parts: &[u64]) -> bool
-    ensures { λ r. ⌜ r ≡ ltb (endFrom (now (plan .entry)) (now (parts .entry)) (nodesOf (now (plan .entry))) 0 0) top ⌝ }
+    ensures { λ r. ⌜ r ≡ ltb (endFrom (was plan) (was parts) (nodesOf (was plan)) 0 0) top ⌝ }
 {
     let n = plan::parts::node_count(plan);
     let mut end: u64 = 0;

@@ -3,6 +3,7 @@ ghost use mathlib.Core.Path.{_≡_};
 ghost use mathlib.Core.List.{List};
 ghost use Prim.Native.Nat.{ℕ, _+_, _*_, _-_, _<_, _≤_, _^_};
 ghost use lib.ListN.{length};
+ghost use Rattle.clauses.specs.Slices.{was};
 ghost use Rattle.number.specs.Number.{entry};
 ghost use Rattle.walk.specs.Log.{Out};
 ghost use Rattle.batch.specs.Stretch.{sumOf, stretch};
@@ -81,9 +82,9 @@ pub fn advance(
     requires { ⌜ (offsets + w * (slot + n) ≤ length (now body)) × (sizes + w * (slot + n) ≤ length (now body)) × (slot + n < 2 ^ 63) × (from ≤ n) ⌝ }
     requires { ⌜ (m ≤ sumOf (λ q. entry w (now body) sizes (slot + q)) from) × (sumOf (λ q. entry w (now body) sizes (slot + q)) n < 2 ^ 63) ⌝ }
     requires { ⌜ ((w ≡ 4 → ⊥) → w ≡ 8) ⌝ }
-    ensures { λ t. ⌜ ((walk : ℕ → ℕ → List ℕ → Out) (c : List ℕ) → stretch walk (λ r. entry w (now (body .entry)) offsets (slot + r)) (λ r. entry w (now (body .entry)) sizes (slot + r)) (n - from) from a m c ≡ stretch walk (λ r. entry w (now (body .entry)) offsets (slot + r)) (λ r. entry w (now (body .entry)) sizes (slot + r)) (n - t .next) (t .next) (t .a) (t .m) c) ⌝ }
+    ensures { λ t. ⌜ ((walk : ℕ → ℕ → List ℕ → Out) (c : List ℕ) → stretch walk (λ r. entry w (was body) offsets (slot + r)) (λ r. entry w (was body) sizes (slot + r)) (n - from) from a m c ≡ stretch walk (λ r. entry w (was body) offsets (slot + r)) (λ r. entry w (was body) sizes (slot + r)) (n - t .next) (t .next) (t .a) (t .m) c) ⌝ }
     ensures { λ t. ⌜ (t .next ≤ n) × (from ≤ t .next) ⌝ }
-    ensures { λ t. ⌜ ((t .next ≡ n → ⊥) → sideOf (t .a) (t .m) (entry w (now (body .entry)) offsets (slot + t .next)) (entry w (now (body .entry)) sizes (slot + t .next)) ≡ 3) ⌝ }
+    ensures { λ t. ⌜ ((t .next ≡ n → ⊥) → sideOf (t .a) (t .m) (entry w (was body) offsets (slot + t .next)) (entry w (was body) sizes (slot + t .next)) ≡ 3) ⌝ }
 {
     let mut b = a;
     let mut k = m;

@@ -5,6 +5,7 @@ ghost use mathlib.Core.List.{[], _∷_};
 ghost use Prim.Native.Nat.{_+_, _*_, _<_, _≤_, _^_};
 ghost use lib.ListN.{length};
 ghost use lib.Dec.{ltb};
+ghost use Rattle.clauses.specs.Slices.{was, left};
 ghost use Rattle.number.specs.Number.{entry, encode, splice};
 ghost use Rattle.columnar.specs.Types.{half};
 ghost use Rattle.utils.specs.Pieces.{numbers};
@@ -19,7 +20,7 @@ use walk::plan_words;
 fn add_sizes(body: &[u8], at: u64, w: u64, slot: u64, n: u64, rows: u64) -> u64
     requires { ⌜ (at + w * (slot + n) ≤ length (now body)) × (slot + n < 2 ^ 63) ⌝ }
     requires { ⌜ ((w ≡ 4 → ⊥) → w ≡ 8) ⌝ }
-    ensures { λ r. ⌜ r ≡ grown rows (sumOf (λ q. entry w (now (body .entry)) at (slot + q)) n) ⌝ }
+    ensures { λ r. ⌜ r ≡ grown rows (sumOf (λ q. entry w (was body) at (slot + q)) n) ⌝ }
 {
     let mut sum = rows;
     let mut r: u64 = 0;
@@ -34,7 +35,7 @@ fn add_sizes(body: &[u8], at: u64, w: u64, slot: u64, n: u64, rows: u64) -> u64
 pub fn sum_sizes(body: &[u8], at: u64, w: u64, slot: u64, n: u64, rows: u64) -> u64
     requires { ⌜ (at + w * (slot + n) ≤ length (now body)) × (slot + n < 2 ^ 63) ⌝ }
     requires { ⌜ ((w ≡ 4 → ⊥) → w ≡ 8) ⌝ }
-    ensures { λ r. ⌜ r ≡ grown rows (sumOf (λ q. entry w (now (body .entry)) at (slot + q)) n) ⌝ }
+    ensures { λ r. ⌜ r ≡ grown rows (sumOf (λ q. entry w (was body) at (slot + q)) n) ⌝ }
 {
     if w == 4 {
         return add_sizes(body, at, 4, slot, n, rows);
@@ -57,7 +58,7 @@ pub fn is_offset(w: u64, sum: u64) -> bool
 fn write_entry(room: &mut [u8], at: usize, w: u64, v: u64)
     requires { ⌜ at + w ≤ length (now room) ⌝ }
     requires { ⌜ ((w ≡ 4 → ⊥) → w ≡ 8) ⌝ }
-    ensures { λ _. ⌜ now (room .exit) ≡ splice at (encode w v) (now (room .entry)) ⌝ }
+    ensures { λ _. ⌜ left room ≡ splice at (encode w v) (was room) ⌝ }
 {
     if w == 4 {
         number::write_u32(room, at, (v % 4294967296) as u32);
@@ -79,7 +80,7 @@ fn write_sums_by(
 )
     requires { ⌜ (to + w * n ≤ length (now room)) × (at + w * (slot + n) ≤ length (now body)) × (slot + n < 2 ^ 63) × (rows + sumOf (λ q. entry w (now body) at (slot + q)) n < 2 ^ 63) ⌝ }
     requires { ⌜ ((w ≡ 4 → ⊥) → w ≡ 8) ⌝ }
-    ensures { λ _. ⌜ now (room .exit) ≡ splice to (numbers w (λ r. rows + sumOf (λ q. entry w (now (body .entry)) at (slot + q)) r) n) (now (room .entry)) ⌝ }
+    ensures { λ _. ⌜ left room ≡ splice to (numbers w (λ r. rows + sumOf (λ q. entry w (was body) at (slot + q)) r) n) (was room) ⌝ }
 {
     let mut sum = rows;
     let mut r: u64 = 0;
@@ -103,7 +104,7 @@ fn write_sums(
 )
     requires { ⌜ (to + w * n ≤ length (now room)) × (at + w * (slot + n) ≤ length (now body)) × (slot + n < 2 ^ 63) × (rows + sumOf (λ q. entry w (now body) at (slot + q)) n < 2 ^ 63) ⌝ }
     requires { ⌜ ((w ≡ 4 → ⊥) → w ≡ 8) ⌝ }
-    ensures { λ _. ⌜ now (room .exit) ≡ splice to (numbers w (λ r. rows + sumOf (λ q. entry w (now (body .entry)) at (slot + q)) r) n) (now (room .entry)) ⌝ }
+    ensures { λ _. ⌜ left room ≡ splice to (numbers w (λ r. rows + sumOf (λ q. entry w (was body) at (slot + q)) r) n) (was room) ⌝ }
 {
     if w == 4 {
         write_sums_by(room, to, 4, body, at, slot, n, rows);
@@ -129,7 +130,7 @@ pub fn put_sums(
 )
     requires { ⌜ (i < 32) × (at + w * (slot + n) ≤ length (now body)) × (slot + n < 2 ^ 63) × (rows + sumOf (λ q. entry w (now body) at (slot + q)) n < 2 ^ 63) ⌝ }
     requires { ⌜ ((w ≡ 4 → ⊥) → w ≡ 8) ⌝ }
-    ensures { λ _. ⌜ now (room .exit) ≡ applyIf (now (plan .entry)) (now (parts .entry)) write (put i 1 o (numbers w (λ r. rows + sumOf (λ q. entry w (now (body .entry)) at (slot + q)) r) n) ∷ []) (now (room .entry)) ⌝ }
+    ensures { λ _. ⌜ left room ≡ applyIf (was plan) (was parts) write (put i 1 o (numbers w (λ r. rows + sumOf (λ q. entry w (was body) at (slot + q)) r) n) ∷ []) (was room) ⌝ }
 {
     match plan_words::target(
         plan,
@@ -150,7 +151,7 @@ pub fn put_sums(
 fn furthest_by(body: &[u8], offsets: u64, sizes: u64, w: u64, slot: u64, n: u64) -> u64
     requires { ⌜ (offsets + w * (slot + n) ≤ length (now body)) × (sizes + w * (slot + n) ≤ length (now body)) × (slot + n < 2 ^ 63) ⌝ }
     requires { ⌜ ((w ≡ 4 → ⊥) → w ≡ 8) ⌝ }
-    ensures { λ r. ⌜ r ≡ furthestOf (λ q. entry w (now (body .entry)) offsets (slot + q) + entry w (now (body .entry)) sizes (slot + q)) n ⌝ }
+    ensures { λ r. ⌜ r ≡ furthestOf (λ q. entry w (was body) offsets (slot + q) + entry w (was body) sizes (slot + q)) n ⌝ }
 {
     let mut most: u64 = 0;
     let mut r: u64 = 0;
@@ -176,7 +177,7 @@ pub fn larger(a: u64, b: u64) -> u64
 pub fn furthest(body: &[u8], offsets: u64, sizes: u64, w: u64, slot: u64, n: u64) -> u64
     requires { ⌜ (offsets + w * (slot + n) ≤ length (now body)) × (sizes + w * (slot + n) ≤ length (now body)) × (slot + n < 2 ^ 63) ⌝ }
     requires { ⌜ ((w ≡ 4 → ⊥) → w ≡ 8) ⌝ }
-    ensures { λ r. ⌜ r ≡ furthestOf (λ q. entry w (now (body .entry)) offsets (slot + q) + entry w (now (body .entry)) sizes (slot + q)) n ⌝ }
+    ensures { λ r. ⌜ r ≡ furthestOf (λ q. entry w (was body) offsets (slot + q) + entry w (was body) sizes (slot + q)) n ⌝ }
 {
     if w == 4 {
         return furthest_by(body, offsets, sizes, 4, slot, n);

@@ -5,6 +5,7 @@ ghost use mathlib.Core.List.{[], _∷_};
 ghost use Prim.Native.Nat.{ℕ, _+_, _*_, _<_, _≤_, _^_};
 ghost use lib.ListN.{length, getD, replicate};
 ghost use lib.Dec.{eqb};
+ghost use Rattle.clauses.specs.Slices.{was, left};
 ghost use Rattle.number.specs.Number.{entry, splice};
 ghost use Rattle.utils.specs.Pieces.{numbers};
 ghost use Rattle.walk.specs.State.{rows};
@@ -54,8 +55,8 @@ pub fn survey(
 ) -> Fall
     requires { ⌜ (ids + (slot + n) ≤ length (now body)) × (positions + 4 * (slot + n) ≤ length (now body)) × (slot + n < 2 ^ 63) ⌝ }
     requires { ⌜ (now begins ≡ replicate 32 0) × (now taken ≡ replicate 32 0) × (now ends ≡ replicate 32 0) ⌝ }
-    ensures { λ s. ⌜ s .sound ≡ allLand (λ r. homeBy (now (homes .entry)) (now (body .entry)) (ids + (slot + r))) (now (counters .entry)) n ⌝ }
-    ensures { λ s. ⌜ (s .sound ≡ true → Fallen (λ r. homeBy (now (homes .entry)) (now (body .entry)) (ids + (slot + r))) (λ r. entry 4 (now (body .entry)) positions (slot + r)) n n (s .whole) (now (begins .exit)) (now (taken .exit)) (now (ends .exit))) ⌝ }
+    ensures { λ s. ⌜ s .sound ≡ allLand (λ r. homeBy (was homes) (was body) (ids + (slot + r))) (was counters) n ⌝ }
+    ensures { λ s. ⌜ (s .sound ≡ true → Fallen (λ r. homeBy (was homes) (was body) (ids + (slot + r))) (λ r. entry 4 (was body) positions (slot + r)) n n (s .whole) (left begins) (left taken) (left ends)) ⌝ }
 {
     let mut whole = true;
     let mut r: u64 = 0;
@@ -87,7 +88,7 @@ pub fn survey(
 
 // The rows of every node.
 fn rows_of_all(counters: &[u64; plan_words::COUNTERS]) -> [u64; 32]
-    ensures { λ r. ⌜ (length r ≡ 32) × ((k : ℕ) → k < 32 → getD r k 0 ≡ rows (now (counters .entry)) k) ⌝ }
+    ensures { λ r. ⌜ (length r ≡ 32) × ((k : ℕ) → k < 32 → getD r k 0 ≡ rows (was counters) k) ⌝ }
 {
     let mut lands = [0u64; 32];
     let mut k: usize = 0;
@@ -110,7 +111,7 @@ fn write_lands(
     n: u64,
 )
     requires { ⌜ (to + 4 * n ≤ length (now room)) × (ids + (slot + n) ≤ length (now body)) × (slot + n < 2 ^ 63) × (allLand (λ r. homeBy (now homes) (now body) (ids + (slot + r))) (now counters) n ≡ true) ⌝ }
-    ensures { λ _. ⌜ now (room .exit) ≡ splice to (numbers 4 (landsBy (λ r. homeBy (now (homes .entry)) (now (body .entry)) (ids + (slot + r))) (now (counters .entry))) n) (now (room .entry)) ⌝ }
+    ensures { λ _. ⌜ left room ≡ splice to (numbers 4 (landsBy (λ r. homeBy (was homes) (was body) (ids + (slot + r))) (was counters)) n) (was room) ⌝ }
 {
     let mut lands = rows_of_all(counters);
     let mut r: u64 = 0;
@@ -139,7 +140,7 @@ pub fn put_lands(
     n: u64,
 )
     requires { ⌜ (i < 32) × (ids + (slot + n) ≤ length (now body)) × (slot + n < 2 ^ 63) × (allLand (λ r. homeBy (now homes) (now body) (ids + (slot + r))) (now counters) n ≡ true) ⌝ }
-    ensures { λ _. ⌜ now (room .exit) ≡ applyIf (now (plan .entry)) (now (parts .entry)) write (put i 2 o (numbers 4 (landsBy (λ r. homeBy (now (homes .entry)) (now (body .entry)) (ids + (slot + r))) (now (counters .entry))) n) ∷ []) (now (room .entry)) ⌝ }
+    ensures { λ _. ⌜ left room ≡ applyIf (was plan) (was parts) write (put i 2 o (numbers 4 (landsBy (λ r. homeBy (was homes) (was body) (ids + (slot + r))) (was counters)) n) ∷ []) (was room) ⌝ }
 {
     match plan_words::target(
         plan,

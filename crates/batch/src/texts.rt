@@ -4,11 +4,12 @@ ghost use mathlib.Core.Bool.{true};
 ghost use mathlib.Core.List.{List};
 ghost use Prim.Native.Nat.{ℕ, _+_, _*_, _<_, _≤_, _^_};
 ghost use lib.ListN.{length};
+ghost use Rattle.clauses.specs.Slices.{was};
 ghost use Rattle.utils.specs.Extension.{extended};
 ghost use Rattle.walk.specs.State.{bytesOf, bytes};
-ghost use Rattle.walk.specs.Log.{Did};
 ghost use Rattle.walk.specs.Leaves.{putString, putExtended};
 ghost use Rattle.leaf_walk.specs.Join.{join};
+ghost use Rattle.leaf_walk.specs.Walks.{lentJoin, Walks};
 ghost use Rattle.batch.specs.Stretch.{neverFalls};
 ghost use Rattle.batch.specs.Batch.{batchLeaf};
 ghost use Rattle.batch.specs.batch_walk.Plain.{isText, steadyString};
@@ -20,7 +21,7 @@ use walk::plan_words;
 // Whether node k is of byte strings, and keeps no nulls.
 pub fn is_text(plan: &[u64], k: usize) -> bool
     requires { ⌜ k < 32 ⌝ }
-    ensures { λ r. ⌜ r ≡ isText (now (plan .entry)) k ⌝ }
+    ensures { λ r. ⌜ r ≡ isText (was plan) k ⌝ }
 {
     if !schema::formats::is_string(plan_words::code_of(plan, k)) {
         return false;
@@ -32,7 +33,7 @@ pub fn is_text(plan: &[u64], k: usize) -> bool
 fn rises_by(body: &[u8], from: u64, w: u64, n: u64) -> bool
     requires { ⌜ (from + w * (n + 1) ≤ length (now body)) × (n < 2 ^ 63) ⌝ }
     requires { ⌜ ((w ≡ 4 → ⊥) → w ≡ 8) ⌝ }
-    ensures { λ r. ⌜ r ≡ neverFalls w (now (body .entry)) from n ⌝ }
+    ensures { λ r. ⌜ r ≡ neverFalls w (was body) from n ⌝ }
 {
     let mut before = lookups::entry_at(body, from, w, 0);
     let mut r: u64 = 0;
@@ -51,7 +52,7 @@ fn rises_by(body: &[u8], from: u64, w: u64, n: u64) -> bool
 fn never_falls(body: &[u8], from: u64, w: u64, n: u64) -> bool
     requires { ⌜ (from + w * (n + 1) ≤ length (now body)) × (n < 2 ^ 63) ⌝ }
     requires { ⌜ ((w ≡ 4 → ⊥) → w ≡ 8) ⌝ }
-    ensures { λ r. ⌜ r ≡ neverFalls w (now (body .entry)) from n ⌝ }
+    ensures { λ r. ⌜ r ≡ neverFalls w (was body) from n ⌝ }
 {
     if w == 4 {
         return rises_by(body, from, 4, n);
@@ -78,7 +79,7 @@ fn put_string(
 ) -> u8
     requires { ⌜ (first < 2 ^ 32) × (k < 32) × (from + w * (n + 1) ≤ length (now body)) × (bytes (now counters) k ≤ last) × (last < 2 ^ 63) ⌝ }
     requires { ⌜ ((w ≡ 4 → ⊥) → w ≡ 8) ⌝ }
-    ensures { λ r. ⌜ ((lengths : List ℕ) (source : ℕ) → Did (now (plan .entry)) (now (parts .entry)) write (putString (join (now (plan .entry)) (now (parts .entry)) lengths (now (places .entry)) (now (body .entry)) first source) k w from n last lead (now (counters .entry))) (now (room .entry)) r (now (counters .exit)) (now (room .exit))) ⌝ }
+    ensures { λ r. ⌜ ((lengths : List ℕ) (source : ℕ) → Walks plan parts write (putString (join (was plan) (was parts) lengths (was places) (was body) first source) k w from n last lead) counters room r) ⌝ }
 {
     let at = lent_tables::place(places, first + k, 5);
     let old = plan_words::bytes_of(counters, k);
@@ -134,7 +135,7 @@ fn put_extended(
 ) -> u8
     requires { ⌜ (first < 2 ^ 32) × (k < 32) × (from + w * (n + 1) ≤ length (now body)) ⌝ }
     requires { ⌜ ((w ≡ 4 → ⊥) → w ≡ 8) ⌝ }
-    ensures { λ r. ⌜ ((lengths : List ℕ) (source : ℕ) → Did (now (plan .entry)) (now (parts .entry)) write (putExtended (join (now (plan .entry)) (now (parts .entry)) lengths (now (places .entry)) (now (body .entry)) first source) k w from n (extended w (now (body .entry)) from n (bytes (now (counters .entry)) k)) (now (counters .entry))) (now (room .entry)) r (now (counters .exit)) (now (room .exit))) ⌝ }
+    ensures { λ r. ⌜ ((lengths : List ℕ) (source : ℕ) → Walks plan parts write (putExtended (join (was plan) (was parts) lengths (was places) (was body) first source) k w from n (extended w (was body) from n (bytes (was counters) k))) counters room r) ⌝ }
 {
     let last = plan_words::bytes_of(counters, k);
     match variable_size::try_offsets(body, from, w, n as usize, last) {
@@ -176,7 +177,7 @@ fn copy_steady(
 ) -> u8
     requires { ⌜ (first < 2 ^ 32) × (k < 32) × (slot + n < 2 ^ 63) ⌝ }
     requires { ⌜ ((w ≡ 4 → ⊥) → w ≡ 8) ⌝ }
-    ensures { λ r. ⌜ ((lengths : List ℕ) (source : ℕ) → Did (now (plan .entry)) (now (parts .entry)) write (steadyString (join (now (plan .entry)) (now (parts .entry)) lengths (now (places .entry)) (now (body .entry)) first source) k w slot n (now (counters .entry))) (now (room .entry)) r (now (counters .exit)) (now (room .exit))) ⌝ }
+    ensures { λ r. ⌜ ((lengths : List ℕ) (source : ℕ) → Walks plan parts write (steadyString (join (was plan) (was parts) lengths (was places) (was body) first source) k w slot n) counters room r) ⌝ }
 {
     if n == 0 {
         return 0;
@@ -222,7 +223,7 @@ pub fn copy_stretch(
     n: u64,
 ) -> u8
     requires { ⌜ (first < 2 ^ 32) × (k < 32) × (w ≡ bytesOf (now plan) k) × (isText (now plan) k ≡ true) ⌝ }
-    ensures { λ g. ⌜ ((source : ℕ) → Did (now (plan .entry)) (now (parts .entry)) write (batchLeaf (join (now (plan .entry)) (now (parts .entry)) (now (lengths .entry)) (now (places .entry)) (now (body .entry)) first source) k a n (now (counters .entry))) (now (room .entry)) g (now (counters .exit)) (now (room .exit))) ⌝ }
+    ensures { λ g. ⌜ ((source : ℕ) → Walks plan parts write (batchLeaf (lentJoin plan parts lengths places body first source) k a n) counters room g) ⌝ }
 {
     let slot = lookups::slot_of(lengths, first, k, a, n);
     if plan_words::FAR <= slot {

@@ -4,12 +4,12 @@ ghost use mathlib.Core.List.{[]};
 ghost use mathlib.Core.Bool.{true};
 ghost use Prim.Native.Nat.{_-_, _≤_};
 ghost use lib.ListN.{length};
+ghost use Rattle.clauses.specs.Slices.{was, left};
 ghost use Rattle.schema.specs.formats.Code.{widthOf};
 ghost use Rattle.schema.specs.Tree.{codeOf};
 ghost use Rattle.array_data.specs.lent_tables.Lent.{tables};
-ghost use Rattle.source_rules.specs.kinds.Rows.{tablesOf};
 ghost use Rattle.plan.specs.Plan.{flag};
-ghost use Rattle.with_capacities.specs.Answer.{Answers};
+ghost use Rattle.with_capacities.specs.Answer.{Makes, lentTables};
 ghost use Rattle.anew.specs.Anew.{roomGround};
 ghost use Rattle.anew.specs.ResultPlan.{keepsFrom, Comes, planAnew};
 ghost use Rattle.anew.specs.result_plan.Answer.{Asks};
@@ -24,7 +24,7 @@ use walk::plan_words;
 
 // Whether the three nodes from node `target` on are a run-end type over the format of the column that begins at node `first`.
 fn is_due(formats: &[u8], schema: &[u32], first: u32, target: u32) -> bool
-    ensures { λ r. ⌜ r ≡ runsOver (now (formats .entry)) (now (schema .entry)) first target ⌝ }
+    ensures { λ r. ⌜ r ≡ runsOver (was formats) (was schema) first target ⌝ }
 {
     let at = target as usize;
     if !schema::is_within_ceilings(formats, schema, at, 3) {
@@ -52,7 +52,7 @@ fn own_ground(
     start: u64,
     end: u64,
 ) -> u8
-    ensures { λ r. ⌜ r ≡ encodeOwn (now (formats .entry)) (now (schema .entry)) (tables (now (lengths .entry)) [] []) first 0 target start end ⌝ }
+    ensures { λ r. ⌜ r ≡ encodeOwn (was formats) (was schema) (tables (was lengths) [] []) first 0 target start end ⌝ }
 {
     if !crate::is_plain(formats, schema, first, 0) {
         return 10;
@@ -73,7 +73,7 @@ fn own_ground(
 // 1 if the column has a null and else 0.
 fn null_word(lengths: &[u64], places: &[u64], body: &[u8], first: u32) -> u64
     requires { ⌜ Comes (tables (now lengths) (now places) (now body)) first 3 fromColumn ⌝ }
-    ensures { λ r. ⌜ r ≡ flag (keepsFrom (tables (now (lengths .entry)) (now (places .entry)) (now (body .entry))) first fromColumn 2) ⌝ }
+    ensures { λ r. ⌜ r ≡ flag (keepsFrom (tables (was lengths) (was places) (was body)) first fromColumn 2) ⌝ }
     ensures { λ r. ⌜ r ≤ 1 ⌝ }
 {
     if dictionaries::null_count(lengths, places, body, first as usize) == 0 {
@@ -117,7 +117,7 @@ fn planned(
 ) -> [u64; plan_words::WORDS]
     requires { ⌜ Comes (tables (now lengths) (now places) (now body)) first 3 fromColumn ⌝ }
     requires { ⌜ runsOver (now formats) (now schema) first target ≡ true ⌝ }
-    ensures { λ r. ⌜ r ≡ planAnew (now (formats .entry)) (now (schema .entry)) target 3 (keepsFrom (tables (now (lengths .entry)) (now (places .entry)) (now (body .entry))) first fromColumn) true 0 ⌝ }
+    ensures { λ r. ⌜ r ≡ planAnew (was formats) (was schema) target 3 (keepsFrom (tables (was lengths) (was places) (was body)) first fromColumn) true 0 ⌝ }
 {
     let at = target as usize;
     let ends = schema::code_of(formats, schema, at, 1);
@@ -160,7 +160,7 @@ fn tried(
     keep: bool,
 ) -> [u64; plan_words::COUNTERS]
     requires { ⌜ Codable (now formats) (now schema) (tables (now lengths) (now places) (now body)) first start end keep ⌝ }
-    ensures { λ r. ⌜ r ≡ allCounts (end - start) (length (lastOf (now (formats .entry)) (now (schema .entry)) (tables (now (lengths .entry)) (now (places .entry)) (now (body .entry))) first start end keep)) ⌝ }
+    ensures { λ r. ⌜ r ≡ allCounts (end - start) (length (lastOf (was formats) (was schema) (tables (was lengths) (was places) (was body)) first start end keep)) ⌝ }
 {
     let w = schema::formats::width_of(schema::code_of(formats, schema, first as usize, 0));
     let s = crate::slots_of(lengths, places, first, 0, w, start);
@@ -187,7 +187,7 @@ fn runs_ground(
     size: usize,
 ) -> u8
     requires { ⌜ Codable (now formats) (now schema) (tables (now lengths) (now places) (now body)) first start end keep ⌝ }
-    ensures { λ r. ⌜ r ≡ roomGround (now (plan .entry)) (allCounts (end - start) (length (lastOf (now (formats .entry)) (now (schema .entry)) (tables (now (lengths .entry)) (now (places .entry)) (now (body .entry))) first start end keep))) (now (parts .entry)) words counters size ⌝ }
+    ensures { λ r. ⌜ r ≡ roomGround (was plan) (allCounts (end - start) (length (lastOf (was formats) (was schema) (tables (was lengths) (was places) (was body)) first start end keep))) (was parts) words counters size ⌝ }
 {
     let most = counters_of(end - start, end - start);
     if anew::result_plan::room_ground(plan, &most, parts, words, counters, size) == 0 {
@@ -225,8 +225,8 @@ fn write(
 ) -> u64
     requires { ⌜ Sized (widthOf (codeOf (now formats) (now schema) target 1)) × Codable (now formats) (now schema) (tables (now lengths) (now places) (now body)) first start end keep ⌝ }
     requires { ⌜ RoomFor (now formats) (now schema) (tables (now lengths) (now places) (now body)) first start end target (now plan) (now parts) keep (length (now room)) ⌝ }
-    ensures { λ _. ⌜ now (room .exit) ≡ runsIn (now (formats .entry)) (now (schema .entry)) (tables (now (lengths .entry)) (now (places .entry)) (now (body .entry))) first start end target (now (plan .entry)) (now (parts .entry)) keep (now (room .entry)) ⌝ }
-    ensures { λ k. ⌜ k ≡ length (lastOf (now (formats .entry)) (now (schema .entry)) (tables (now (lengths .entry)) (now (places .entry)) (now (body .entry))) first start end keep) ⌝ }
+    ensures { λ _. ⌜ left room ≡ runsIn (was formats) (was schema) (tables (was lengths) (was places) (was body)) first start end target (was plan) (was parts) keep (was room) ⌝ }
+    ensures { λ k. ⌜ k ≡ length (lastOf (was formats) (was schema) (tables (was lengths) (was places) (was body)) first start end keep) ⌝ }
 {
     let w = schema::formats::width_of(schema::code_of(formats, schema, first as usize, 0));
     let e = schema::formats::width_of(schema::code_of(formats, schema, target as usize, 1));
@@ -255,7 +255,7 @@ pub fn plan_encode(
     plan: &mut [u64],
     counters: &mut [u64],
 ) -> u8
-    ensures { λ r. ⌜ Asks (encodeAsked (now (formats .entry)) (now (schema .entry)) (tablesOf (now (lengths .entry)) (now (places .entry)) (now (buffers .entry)) (now (body .entry))) first n target start end (now (plan .entry)) (now (counters .entry))) r (now (plan .exit)) (now (counters .exit)) ⌝ }
+    ensures { λ r. ⌜ Asks (encodeAsked (was formats) (was schema) (lentTables lengths places buffers body) first n target start end (was plan) (was counters)) r (left plan) (left counters) ⌝ }
 {
     let g = columns::column_ground(formats, schema, lengths, places, buffers, body, first, n);
     if g != 0 {
@@ -307,7 +307,7 @@ pub fn encode(
     counters: &mut [u64],
     room: &mut [u8],
 ) -> u8
-    ensures { λ r. ⌜ Answers (encoding (now (formats .entry)) (now (schema .entry)) (tablesOf (now (lengths .entry)) (now (places .entry)) (now (buffers .entry)) (now (body .entry))) first n target start end (now (parts .entry)) (now (plan .entry)) (now (counters .entry)) (now (room .entry))) r (now (plan .exit)) (now (counters .exit)) (now (room .exit)) ⌝ }
+    ensures { λ r. ⌜ Makes (encoding (was formats) (was schema) (lentTables lengths places buffers body) first n target start end (was parts)) plan counters room r ⌝ }
 {
     if columns::CEILING < room.len() {
         return 9;

@@ -3,6 +3,7 @@ ghost use mathlib.Core.Path.{_≡_};
 ghost use mathlib.Core.Bool.{true};
 ghost use Prim.Native.Nat.{_+_, _*_, _-_, _≤_, _<_, _^_};
 ghost use lib.ListN.{length};
+ghost use Rattle.clauses.specs.Slices.{was, left};
 ghost use Rattle.aggregates.specs.patterns.Parts.{Sized};
 ghost use Rattle.anew.specs.runs.Runs.{those};
 ghost use Rattle.coding.specs.run_coding.Rows.{Held, changeIn, lastRows};
@@ -13,7 +14,7 @@ use crate::run_coding::Spots;
 // After how many of the m rows the next one reads differently.
 fn count_changes(body: &[u8], w: u8, masked: bool, s: Slots, m: usize) -> u64
     requires { ⌜ (1 ≤ m) × Held (now body) w masked (s .start) (s .mask) (s .bit) m ⌝ }
-    ensures { λ k. ⌜ k ≡ length (those (changeIn (now (body .entry)) w masked (s .start) (s .mask) (s .bit)) 0 (m - 1)) ⌝ }
+    ensures { λ k. ⌜ k ≡ length (those (changeIn (was body) w masked (s .start) (s .mask) (s .bit)) 0 (m - 1)) ⌝ }
 {
     let mut k = 0u64;
     let mut a = crate::run_coding::is_valid(body, masked, s, 0);
@@ -34,7 +35,7 @@ fn count_changes(body: &[u8], w: u8, masked: bool, s: Slots, m: usize) -> u64
 // The same; a loop for each width.
 fn count_by(body: &[u8], w: u8, masked: bool, s: Slots, m: usize) -> u64
     requires { ⌜ (1 ≤ m) × Held (now body) w masked (s .start) (s .mask) (s .bit) m ⌝ }
-    ensures { λ k. ⌜ k ≡ length (those (changeIn (now (body .entry)) w masked (s .start) (s .mask) (s .bit)) 0 (m - 1)) ⌝ }
+    ensures { λ k. ⌜ k ≡ length (those (changeIn (was body) w masked (s .start) (s .mask) (s .bit)) 0 (m - 1)) ⌝ }
 {
     if masked {
         return match w {
@@ -55,7 +56,7 @@ fn count_by(body: &[u8], w: u8, masked: bool, s: Slots, m: usize) -> u64
 // HOW MANY RUNS the m rows are.
 pub fn count_runs(body: &[u8], w: u8, masked: bool, s: Slots, m: usize) -> u64
     requires { ⌜ Held (now body) w masked (s .start) (s .mask) (s .bit) m ⌝ }
-    ensures { λ k. ⌜ k ≡ length (lastRows (now (body .entry)) w masked (s .start) (s .mask) (s .bit) m) ⌝ }
+    ensures { λ k. ⌜ k ≡ length (lastRows (was body) w masked (s .start) (s .mask) (s .bit) m) ⌝ }
 {
     if m == 0 {
         return 0;
@@ -76,7 +77,7 @@ fn write_run(
     x: u64,
 )
     requires { ⌜ Sized w × Sized e × Fits w masked e (t .ends) (t .values) (t .mask) (length (now room)) (k + 1) × (r < 2 ^ 63) ⌝ }
-    ensures { λ _. ⌜ now (room .exit) ≡ runWritten w masked e (t .ends) (t .values) (t .mask) k r valid x (now (room .entry)) ⌝ }
+    ensures { λ _. ⌜ left room ≡ runWritten w masked e (t .ends) (t .values) (t .mask) k r valid x (was room) ⌝ }
 {
     crate::run_coding::write_entry(room, t.ends + k * (e as usize), e, (r + 1) as u64);
     crate::run_coding::write_entry(
@@ -103,8 +104,8 @@ fn write_each(
 ) -> u64
     requires { ⌜ (1 ≤ m) × (m < 2 ^ 63) × Sized e × Held (now body) w masked (s .start) (s .mask) (s .bit) m ⌝ }
     requires { ⌜ Fits w masked e (t .ends) (t .values) (t .mask) (length (now room)) (length (lastRows (now body) w masked (s .start) (s .mask) (s .bit) m)) ⌝ }
-    ensures { λ _. ⌜ now (room .exit) ≡ runsWritten (now (body .entry)) w masked (s .start) (s .mask) (s .bit) e (t .ends) (t .values) (t .mask) 0 (lastRows (now (body .entry)) w masked (s .start) (s .mask) (s .bit) m) (now (room .entry)) ⌝ }
-    ensures { λ k. ⌜ k ≡ length (lastRows (now (body .entry)) w masked (s .start) (s .mask) (s .bit) m) ⌝ }
+    ensures { λ _. ⌜ left room ≡ runsWritten (was body) w masked (s .start) (s .mask) (s .bit) e (t .ends) (t .values) (t .mask) 0 (lastRows (was body) w masked (s .start) (s .mask) (s .bit) m) (was room) ⌝ }
+    ensures { λ k. ⌜ k ≡ length (lastRows (was body) w masked (s .start) (s .mask) (s .bit) m) ⌝ }
 {
     let mut k = 0;
     let mut r = 0;
@@ -138,8 +139,8 @@ pub fn write_runs(
 ) -> u64
     requires { ⌜ (m < 2 ^ 63) × Sized e × Held (now body) w masked (s .start) (s .mask) (s .bit) m ⌝ }
     requires { ⌜ Fits w masked e (t .ends) (t .values) (t .mask) (length (now room)) (length (lastRows (now body) w masked (s .start) (s .mask) (s .bit) m)) ⌝ }
-    ensures { λ _. ⌜ now (room .exit) ≡ runsWritten (now (body .entry)) w masked (s .start) (s .mask) (s .bit) e (t .ends) (t .values) (t .mask) 0 (lastRows (now (body .entry)) w masked (s .start) (s .mask) (s .bit) m) (now (room .entry)) ⌝ }
-    ensures { λ k. ⌜ k ≡ length (lastRows (now (body .entry)) w masked (s .start) (s .mask) (s .bit) m) ⌝ }
+    ensures { λ _. ⌜ left room ≡ runsWritten (was body) w masked (s .start) (s .mask) (s .bit) e (t .ends) (t .values) (t .mask) 0 (lastRows (was body) w masked (s .start) (s .mask) (s .bit) m) (was room) ⌝ }
+    ensures { λ k. ⌜ k ≡ length (lastRows (was body) w masked (s .start) (s .mask) (s .bit) m) ⌝ }
 {
     if m == 0 {
         return 0;

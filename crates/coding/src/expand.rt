@@ -4,15 +4,15 @@ ghost use mathlib.Core.List.{[]};
 ghost use mathlib.Core.Bool.{true};
 ghost use Prim.Native.Nat.{_+_, _*_, _-_, _≤_, _<_, _^_};
 ghost use lib.ListN.{length};
+ghost use Rattle.clauses.specs.Slices.{was, left};
 ghost use Rattle.array_data.specs.Tables.{part, lengthOf, offsetOf, place};
 ghost use Rattle.array_data.specs.entries.Entries.{column};
 ghost use Rattle.schema.specs.formats.Code.{isFixed};
 ghost use Rattle.array_data.specs.lent_tables.Lent.{tables};
-ghost use Rattle.source_rules.specs.kinds.Rows.{tablesOf};
 ghost use Rattle.slot_reader.specs.run.Rows.{rowRun};
 ghost use Rattle.aggregates.specs.stretches.Ends.{endsOf};
 ghost use Rattle.plan.specs.Plan.{flag};
-ghost use Rattle.with_capacities.specs.Answer.{Answers};
+ghost use Rattle.with_capacities.specs.Answer.{Makes, lentTables};
 ghost use Rattle.anew.specs.ResultPlan.{keepsFrom, Comes, planAnew};
 ghost use Rattle.anew.specs.result_plan.Answer.{Asks};
 ghost use Rattle.coding.specs.Encode.{plainAt};
@@ -30,7 +30,7 @@ use walk::plan_words;
 
 // Whether the column is a run-end one of fixed-width values.
 fn is_taken(formats: &[u8], schema: &[u32], first: u32) -> bool
-    ensures { λ r. ⌜ r ≡ runsOfPlain (now (formats .entry)) (now (schema .entry)) first 0 ⌝ }
+    ensures { λ r. ⌜ r ≡ runsOfPlain (was formats) (was schema) first 0 ⌝ }
 {
     if !schema::formats::is_run_end(schema::code_of(formats, schema, first as usize, 0)) {
         return false;
@@ -40,7 +40,7 @@ fn is_taken(formats: &[u8], schema: &[u32], first: u32) -> bool
 
 // Whether node `target` is a type of the values' format.
 fn is_due(formats: &[u8], schema: &[u32], first: u32, target: u32) -> bool
-    ensures { λ r. ⌜ r ≡ plainOver (now (formats .entry)) (now (schema .entry)) first target ⌝ }
+    ensures { λ r. ⌜ r ≡ plainOver (was formats) (was schema) first target ⌝ }
 {
     let at = target as usize;
     if !schema::is_within_ceilings(formats, schema, at, 1) {
@@ -65,7 +65,7 @@ fn own_ground(
     start: u64,
     end: u64,
 ) -> u8
-    ensures { λ r. ⌜ r ≡ expandOwn (now (formats .entry)) (now (schema .entry)) (tables (now (lengths .entry)) [] []) first 0 target start end ⌝ }
+    ensures { λ r. ⌜ r ≡ expandOwn (was formats) (was schema) (tables (was lengths) [] []) first 0 target start end ⌝ }
 {
     if !is_taken(formats, schema, first) {
         return 10;
@@ -82,7 +82,7 @@ fn own_ground(
 // 1 if the values have a null and else 0.
 fn null_word(lengths: &[u64], places: &[u64], body: &[u8], first: u32) -> u64
     requires { ⌜ Comes (tables (now lengths) (now places) (now body)) first 1 fromValues ⌝ }
-    ensures { λ r. ⌜ r ≡ flag (keepsFrom (tables (now (lengths .entry)) (now (places .entry)) (now (body .entry))) first fromValues 0) ⌝ }
+    ensures { λ r. ⌜ r ≡ flag (keepsFrom (tables (was lengths) (was places) (was body)) first fromValues 0) ⌝ }
     ensures { λ r. ⌜ r ≤ 1 ⌝ }
 {
     if dictionaries::null_count(lengths, places, body, first as usize + 2) == 0 {
@@ -103,8 +103,8 @@ fn row_of(
 ) -> Row
     requires { ⌜ Comes (tables (now lengths) (now places) (now body)) first 1 fromValues ⌝ }
     requires { ⌜ plainAt (now formats) (now schema) target 0 ≡ true ⌝ }
-    ensures { λ r. ⌜ rowPlan (r .code) (r .nullable) (r .nulls) ≡ planAnew (now (formats .entry)) (now (schema .entry)) target 1 (keepsFrom (tables (now (lengths .entry)) (now (places .entry)) (now (body .entry))) first fromValues) true 0 ⌝ }
-    ensures { λ r. ⌜ (r .nulls ≡ flag (keepsFrom (tables (now (lengths .entry)) (now (places .entry)) (now (body .entry))) first fromValues 0)) × (r .nulls ≤ 1) × (isFixed (r .code) ≡ true) ⌝ }
+    ensures { λ r. ⌜ rowPlan (r .code) (r .nullable) (r .nulls) ≡ planAnew (was formats) (was schema) target 1 (keepsFrom (tables (was lengths) (was places) (was body)) first fromValues) true 0 ⌝ }
+    ensures { λ r. ⌜ (r .nulls ≡ flag (keepsFrom (tables (was lengths) (was places) (was body)) first fromValues 0)) × (r .nulls ≤ 1) × (isFixed (r .code) ≡ true) ⌝ }
 {
     let code = schema::code_of(formats, schema, target as usize, 0);
     let nullable = schema::flag_of(schema, target as usize, 0) as u64;
@@ -121,7 +121,7 @@ fn first_run(lengths: &[u64], places: &[u64], body: &[u8], first: u32, width: u8
     requires { ⌜ (let x = column (now lengths) (now places) [] [] first in offsetOf x 1 + lengthOf x 1 < 2 ^ 63) ⌝ }
     requires { ⌜ (let x = column (now lengths) (now places) [] [] first in let size = width * (offsetOf x 1 + lengthOf x 1) in (0 < size → place x 1 3 + size < 2 ^ 64)) ⌝ }
     requires { ⌜ (let e = endsOf (column (now lengths) (now places) [] [] first) width in (e .start ≤ e .stop) × (e .stop ≤ length (now body))) ⌝ }
-    ensures { λ r. ⌜ (let x = column (now (lengths .entry)) (now (places .entry)) [] [] first in let e = endsOf x width in r ≡ runOr (rowRun (part (now (body .entry)) (e .start) (e .stop - e .start)) (offsetOf x 0) (lengthOf x 0) width row)) ⌝ }
+    ensures { λ r. ⌜ (let x = column (was lengths) (was places) [] [] first in let e = endsOf x width in r ≡ runOr (rowRun (part (was body) (e .start) (e .stop - e .start)) (offsetOf x 0) (lengthOf x 0) width row)) ⌝ }
 {
     let e = stretches::find_ends(lengths, places, first, width);
     match stretches::stretch_at(body, e, row) {
@@ -147,7 +147,7 @@ fn write(
 )
     requires { ⌜ (start ≤ end) × (start < end → Expandable (now formats) (now schema) (tables (now lengths) (now places) (now body)) first start end keep) ⌝ }
     requires { ⌜ RowsFit (now formats) (now schema) (tables (now lengths) (now places) (now body)) first start end (now plan) (now parts) keep (length (now room)) ⌝ }
-    ensures { λ _. ⌜ now (room .exit) ≡ rowsIn (now (formats .entry)) (now (schema .entry)) (tables (now (lengths .entry)) (now (places .entry)) (now (body .entry))) first start end (now (plan .entry)) (now (parts .entry)) keep (now (room .entry)) ⌝ }
+    ensures { λ _. ⌜ left room ≡ rowsIn (was formats) (was schema) (tables (was lengths) (was places) (was body)) first start end (was plan) (was parts) keep (was room) ⌝ }
 {
     if start == end {
         return;
@@ -184,7 +184,7 @@ pub fn plan_expand(
     plan: &mut [u64],
     counters: &mut [u64],
 ) -> u8
-    ensures { λ r. ⌜ Asks (expandAsked (now (formats .entry)) (now (schema .entry)) (tablesOf (now (lengths .entry)) (now (places .entry)) (now (buffers .entry)) (now (body .entry))) first n target start end (now (plan .entry)) (now (counters .entry))) r (now (plan .exit)) (now (counters .exit)) ⌝ }
+    ensures { λ r. ⌜ Asks (expandAsked (was formats) (was schema) (lentTables lengths places buffers body) first n target start end (was plan) (was counters)) r (left plan) (left counters) ⌝ }
 {
     let g = columns::column_ground(formats, schema, lengths, places, buffers, body, first, n);
     if g != 0 {
@@ -225,7 +225,7 @@ pub fn expand(
     counters: &mut [u64],
     room: &mut [u8],
 ) -> u8
-    ensures { λ r. ⌜ Answers (expanding (now (formats .entry)) (now (schema .entry)) (tablesOf (now (lengths .entry)) (now (places .entry)) (now (buffers .entry)) (now (body .entry))) first n target start end (now (parts .entry)) (now (plan .entry)) (now (counters .entry)) (now (room .entry))) r (now (plan .exit)) (now (counters .exit)) (now (room .exit)) ⌝ }
+    ensures { λ r. ⌜ Makes (expanding (was formats) (was schema) (lentTables lengths places buffers body) first n target start end (was parts)) plan counters room r ⌝ }
 {
     if columns::CEILING < room.len() {
         return 9;

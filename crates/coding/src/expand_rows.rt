@@ -2,6 +2,7 @@
 ghost use mathlib.Core.Path.{_≡_};
 ghost use Prim.Native.Nat.{_+_, _*_, _-_, _≤_, _<_, min};
 ghost use lib.ListN.{length};
+ghost use Rattle.clauses.specs.Slices.{was, left};
 ghost use Rattle.number.specs.Number.{splice};
 ghost use Rattle.utils.specs.Offsets.{repeated};
 ghost use Rattle.aggregates.specs.patterns.Parts.{Sized};
@@ -21,7 +22,7 @@ fn lesser(a: u64, b: u64) -> u64
 // The w lowest bytes of v, n times.
 fn fill(room: &mut [u8], at: usize, w: u8, n: usize, v: u64)
     requires { ⌜ Sized w × (at + w * n ≤ length (now room)) ⌝ }
-    ensures { λ _. ⌜ now (room .exit) ≡ splice at (repeated w v n) (now (room .entry)) ⌝ }
+    ensures { λ _. ⌜ left room ≡ splice at (repeated w v n) (was room) ⌝ }
 {
     let mut i = 0;
     while i < n {
@@ -33,7 +34,7 @@ fn fill(room: &mut [u8], at: usize, w: u8, n: usize, v: u64)
 // The same; a loop for each width.
 fn fill_by(room: &mut [u8], at: usize, w: u8, n: usize, v: u64)
     requires { ⌜ Sized w × (at + w * n ≤ length (now room)) ⌝ }
-    ensures { λ _. ⌜ now (room .exit) ≡ splice at (repeated w v n) (now (room .entry)) ⌝ }
+    ensures { λ _. ⌜ left room ≡ splice at (repeated w v n) (was room) ⌝ }
 {
     match w {
         1 => fill(room, at, 1, n, v),
@@ -55,7 +56,7 @@ fn write_run(
     x: u64,
 )
     requires { ⌜ Sized w × Holds w masked (t .values) (t .mask) (length (now room)) (r + n) ⌝ }
-    ensures { λ _. ⌜ now (room .exit) ≡ rowsWritten w masked (t .values) (t .mask) r n valid x (now (room .entry)) ⌝ }
+    ensures { λ _. ⌜ left room ≡ rowsWritten w masked (t .values) (t .mask) r n valid x (was room) ⌝ }
 {
     fill_by(
         room,
@@ -86,7 +87,7 @@ fn write_each(
 )
     requires { ⌜ Ends (now body) e ends run x m count × Held (now body) w masked (s .start) (s .mask) (s .bit) count ⌝ }
     requires { ⌜ Holds w masked (t .values) (t .mask) (length (now room)) m ⌝ }
-    ensures { λ _. ⌜ now (room .exit) ≡ rowsFrom (now (body .entry)) w masked (s .start) (s .mask) (s .bit) e ends x m (t .values) (t .mask) m 0 run (now (room .entry)) ⌝ }
+    ensures { λ _. ⌜ left room ≡ rowsFrom (was body) w masked (s .start) (s .mask) (s .bit) e ends x m (t .values) (t .mask) m 0 run (was room) ⌝ }
 {
     let mut q = run;
     let mut r = 0;
@@ -119,7 +120,7 @@ pub fn write_rows(
 )
     requires { ⌜ Ends (now body) e ends run x m count × Held (now body) w masked (s .start) (s .mask) (s .bit) count ⌝ }
     requires { ⌜ Holds w masked (t .values) (t .mask) (length (now room)) m ⌝ }
-    ensures { λ _. ⌜ now (room .exit) ≡ rowsFrom (now (body .entry)) w masked (s .start) (s .mask) (s .bit) e ends x m (t .values) (t .mask) m 0 run (now (room .entry)) ⌝ }
+    ensures { λ _. ⌜ left room ≡ rowsFrom (was body) w masked (s .start) (s .mask) (s .bit) e ends x m (t .values) (t .mask) m 0 run (was room) ⌝ }
 {
     if masked {
         match w {

@@ -3,6 +3,7 @@ ghost use mathlib.Core.Path.{_≡_};
 ghost use mathlib.Core.Bool.{true};
 ghost use Prim.Native.Nat.{_≤_};
 ghost use lib.ListN.{length};
+ghost use Rattle.clauses.specs.Slices.{was, left};
 ghost use Rattle.schema.specs.formats.Code.{isFixed};
 ghost use Rattle.plan.specs.parts.Parts.{partsHold};
 ghost use Rattle.anew.specs.Anew.{roomGround};
@@ -22,7 +23,7 @@ pub struct Row {
 // The words of the plan; the others are 0.
 pub fn write_words(row: Row, plan: &mut [u64])
     requires { ⌜ (length (now plan) ≡ 872) × (row .nulls ≤ 1) ⌝ }
-    ensures { λ _. ⌜ now (plan .exit) ≡ rowPlan (row .code) (row .nullable) (row .nulls) ⌝ }
+    ensures { λ _. ⌜ left plan ≡ rowPlan (row .code) (row .nullable) (row .nulls) ⌝ }
 {
     result_plan::clear(plan);
     let k = row.nulls;
@@ -39,7 +40,7 @@ pub fn write_words(row: Row, plan: &mut [u64])
 // The counters of m rows.
 pub fn write_counters(m: u64, counters: &mut [u64])
     requires { ⌜ length (now counters) ≡ 96 ⌝ }
-    ensures { λ _. ⌜ now (counters .exit) ≡ rowCounts m ⌝ }
+    ensures { λ _. ⌜ left counters ≡ rowCounts m ⌝ }
 {
     result_plan::clear(counters);
     counters[0] = m;
@@ -48,7 +49,7 @@ pub fn write_counters(m: u64, counters: &mut [u64])
 // Whether the parts hold m rows: ground 13 where not.
 fn rows_hold(row: Row, m: u64, parts: &[u64]) -> bool
     requires { ⌜ (row .nulls ≤ 1) × (isFixed (row .code) ≡ true) ⌝ }
-    ensures { λ r. ⌜ r ≡ partsHold (rowPlan (row .code) (row .nullable) (row .nulls)) (rowCounts m) (now (parts .entry)) ⌝ }
+    ensures { λ r. ⌜ r ≡ partsHold (rowPlan (row .code) (row .nullable) (row .nulls)) (rowCounts m) (was parts) ⌝ }
 {
     let k = row.nulls as usize;
     let w = schema::formats::width_of(row.code);
@@ -71,7 +72,7 @@ pub fn room_ground(
     size: usize,
 ) -> u8
     requires { ⌜ (row .nulls ≤ 1) × (isFixed (row .code) ≡ true) ⌝ }
-    ensures { λ r. ⌜ r ≡ roomGround (rowPlan (row .code) (row .nullable) (row .nulls)) (rowCounts m) (now (parts .entry)) words counters size ⌝ }
+    ensures { λ r. ⌜ r ≡ roomGround (rowPlan (row .code) (row .nullable) (row .nulls)) (rowCounts m) (was parts) words counters size ⌝ }
 {
     if words != plan_words::WORDS {
         return 14;

@@ -5,6 +5,7 @@ ghost use mathlib.Core.Bool.{true, not};
 ghost use Prim.Native.Nat.{_+_, _*_, _/_, _≤_, _<_, _^_};
 ghost use lib.Dec.{eqb};
 ghost use lib.ListN.{length};
+ghost use Rattle.clauses.specs.Slices.{was, left};
 ghost use Rattle.number.specs.Number.{splice, encode};
 ghost use Rattle.aggregates.specs.patterns.Parts.{Sized};
 ghost use Rattle.anew.specs.runs.Runs.{alike};
@@ -30,7 +31,7 @@ pub struct Spots {
 // The number of row r of those of w bytes.
 pub fn number_at(body: &[u8], w: u8, s: Slots, r: usize) -> u64
     requires { ⌜ Sized w × (s .start + r * w + w ≤ length (now body)) ⌝ }
-    ensures { λ x. ⌜ x ≡ numberIn (now (body .entry)) w (s .start) r ⌝ }
+    ensures { λ x. ⌜ x ≡ numberIn (was body) w (s .start) r ⌝ }
 {
     patterns::read_pattern(body, s.start + r * (w as usize), w)
 }
@@ -38,7 +39,7 @@ pub fn number_at(body: &[u8], w: u8, s: Slots, r: usize) -> u64
 // Whether row r is valid.
 pub fn is_valid(body: &[u8], masked: bool, s: Slots, r: usize) -> bool
     requires { ⌜ (masked ≡ true → (s .bit + r < 2 ^ 64) × (s .mask + (s .bit + r) / 8 < length (now body))) ⌝ }
-    ensures { λ x. ⌜ x ≡ validIn (now (body .entry)) masked (s .mask) (s .bit) r ⌝ }
+    ensures { λ x. ⌜ x ≡ validIn (was body) masked (s .mask) (s .bit) r ⌝ }
 {
     if masked {
         let i = s.bit + r;
@@ -64,7 +65,7 @@ pub fn is_change(a: bool, b: bool, x: u64, y: u64) -> bool
 // The w lowest bytes of v at `at`.
 pub fn write_entry(room: &mut [u8], at: usize, w: u8, v: u64)
     requires { ⌜ Sized w × (at + w ≤ length (now room)) ⌝ }
-    ensures { λ _. ⌜ now (room .exit) ≡ splice at (encode w v) (now (room .entry)) ⌝ }
+    ensures { λ _. ⌜ left room ≡ splice at (encode w v) (was room) ⌝ }
 {
     match w {
         1 => number::write_u8(room, at, (v % 256) as u8),
@@ -77,7 +78,7 @@ pub fn write_entry(room: &mut [u8], at: usize, w: u8, v: u64)
 // n equal bits from the bit k of the byte `at` on.
 pub fn write_bits(room: &mut [u8], at: usize, k: usize, n: usize, v: bool)
     requires { ⌜ 8 * at + k + n ≤ 8 * length (now room) ⌝ }
-    ensures { λ _. ⌜ now (room .exit) ≡ putBits (8 * at + k) (replicate n (asBit v)) (now (room .entry)) ⌝ }
+    ensures { λ _. ⌜ left room ≡ putBits (8 * at + k) (replicate n (asBit v)) (was room) ⌝ }
 {
     if v {
         bits::append_ones(room, at, k, n);

@@ -1,6 +1,7 @@
 // What calls that read one or two lent columns outside a join ask first.
 ghost use mathlib.Core.Path.{_≡_};
 ghost use mathlib.Core.List.{[]};
+ghost use Rattle.clauses.specs.Slices.{was};
 ghost use Rattle.array_data.specs.lent_tables.Lent.{tables};
 ghost use Rattle.source_rules.specs.kinds.Rows.{tablesOf};
 ghost use Rattle.columns.specs.Grounds.{columnGround};
@@ -33,7 +34,7 @@ pub fn pair_ground(
     first_b: u32,
     n_b: u32,
 ) -> u8
-    ensures { λ r. ⌜ r ≡ pairGround (columnGround (now (formats .entry)) (now (schema .entry)) (tablesOf (now (lengths .entry)) (now (places .entry)) (now (buffers .entry)) (now (body .entry))) «first_a» «n_a») (columnGround (now (formats .entry)) (now (schema .entry)) (tablesOf (now (lengths .entry)) (now (places .entry)) (now (buffers .entry)) (now (body .entry))) «first_b» «n_b») ⌝ }
+    ensures { λ r. let t = tablesOf (was lengths) (was places) (was buffers) (was body) in ⌜ r ≡ pairGround (columnGround (was formats) (was schema) t «first_a» «n_a») (columnGround (was formats) (was schema) t «first_b» «n_b») ⌝ }
 {
     let g = crate::column_ground(
         formats,
@@ -60,7 +61,7 @@ pub fn pair_ground(
 
 // The format's code of a column that is one node, and 0 of every other.
 pub fn plain_code(formats: &[u8], schema: &[u32], first: u32, n: u32) -> u8
-    ensures { λ r. ⌜ r ≡ plainCode (now (formats .entry)) (now (schema .entry)) first n ⌝ }
+    ensures { λ r. ⌜ r ≡ plainCode (was formats) (was schema) first n ⌝ }
 {
     if n != 1 {
         return 0;
@@ -70,7 +71,7 @@ pub fn plain_code(formats: &[u8], schema: &[u32], first: u32, n: u32) -> u8
 
 // Whether start .. end is a range of the rows of the column that begins at node `first`: ground 2 where not.
 pub fn is_range(lengths: &[u64], first: u32, start: u64, end: u64) -> bool
-    ensures { λ r. ⌜ r ≡ rangeIn (tables (now (lengths .entry)) [] []) first start end ⌝ }
+    ensures { λ r. ⌜ r ≡ rangeIn (tables (was lengths) [] []) first start end ⌝ }
 {
     if end < start {
         return false;

@@ -2,6 +2,7 @@
 ghost use mathlib.Core.Path.{_≡_};
 ghost use mathlib.Core.List.{List, []};
 ghost use Prim.Native.Nat.{ℕ};
+ghost use Rattle.clauses.specs.Slices.{was, left};
 ghost use Rattle.source_rules.specs.kinds.Rows.{tablesOf};
 ghost use Rattle.walk.specs.State.{nulls};
 ghost use Rattle.plan.specs.parts.Parts.{nodesOf, partTotal, partAt};
@@ -11,7 +12,7 @@ ghost use Rattle.refinement.specs.opening.Open.{opening};
 ghost use Rattle.refinement.specs.opening.Ask.{asked, openMeasure};
 ghost use Rattle.refinement.specs.finishing.Finish.{buffersBefore, finishing};
 ghost use Rattle.with_capacities.specs.Answer as Opened;
-ghost use Rattle.with_capacities.specs.Answer.{Plans};
+ghost use Rattle.with_capacities.specs.Answer.{Answers, Plans};
 ghost use Rattle.transform.specs.Answer.{lent, Answers};
 ghost use Rattle.into_builder.specs.Answer as Finished;
 ghost use Rattle.measure.specs.Answer.{Measures};
@@ -41,7 +42,7 @@ pub extern "C" fn lafkuno_plan_parts(
     gaps: u8,
     plan: &mut [u64],
 ) -> u8
-    ensures { λ r. ⌜ Plans (asked (now (formats .entry)) (now (schema .entry)) (now (sources .entry)) (tablesOf (now (lengths .entry)) (now (places .entry)) (now (buffers .entry)) (now (body .entry))) (keeps keep) (grows gaps) (now (plan .entry))) r (now (plan .exit)) ⌝ }
+    ensures { λ r. ⌜ Plans (asked (was formats) (was schema) (was sources) (tablesOf (was lengths) (was places) (was buffers) (was body)) (keeps keep) (grows gaps) (was plan)) r (left plan) ⌝ }
 {
     with_capacities::plan_parts(
         sources,
@@ -74,7 +75,7 @@ pub extern "C" fn lafkuno_open(
     counters: &mut [u64],
     room: &mut [u8],
 ) -> u8
-    ensures { λ r. ⌜ Opened.Answers (opening (now (formats .entry)) (now (schema .entry)) (now (sources .entry)) (tablesOf (now (lengths .entry)) (now (places .entry)) (now (buffers .entry)) (now (body .entry))) (keeps keep) (grows gaps) (now (parts .entry)) (now (plan .entry)) (now (counters .entry)) (now (room .entry))) r (now (plan .exit)) (now (counters .exit)) (now (room .exit)) ⌝ }
+    ensures { λ r. ⌜ Opened.Answers (opening (was formats) (was schema) (was sources) (tablesOf (was lengths) (was places) (was buffers) (was body)) (keeps keep) (grows gaps) (was parts) (was plan) (was counters) (was room)) r (left plan) (left counters) (left room) ⌝ }
 {
     with_capacities::try_with_capacities(
         sources,
@@ -96,7 +97,7 @@ pub extern "C" fn lafkuno_open(
 // How many parts a planned join has.
 #[no_mangle]
 pub extern "C" fn lafkuno_part_count(plan: &[u64]) -> u32
-    ensures { λ r. ⌜ r ≡ partTotal (now (plan .entry)) ⌝ }
+    ensures { λ r. ⌜ r ≡ partTotal (was plan) ⌝ }
 {
     plan::parts::part_total(plan) as u32
 }
@@ -104,7 +105,7 @@ pub extern "C" fn lafkuno_part_count(plan: &[u64]) -> u32
 // The node of part p; the largest number of 64 bits where there is no such part.
 #[no_mangle]
 pub extern "C" fn lafkuno_part_node(plan: &[u64], p: u32) -> u64
-    ensures { λ r. ⌜ r ≡ spotNode (partAt (now (plan .entry)) p) ⌝ }
+    ensures { λ r. ⌜ r ≡ spotNode (partAt (was plan) p) ⌝ }
 {
     match plan::parts::part_at(plan, p as usize) {
         Spot::Of { node, buffer: _ } => node as u64,
@@ -115,7 +116,7 @@ pub extern "C" fn lafkuno_part_node(plan: &[u64], p: u32) -> u64
 // The buffer of part p, 0 for the validity; the largest number of 64 bits where there is no such part.
 #[no_mangle]
 pub extern "C" fn lafkuno_part_buffer(plan: &[u64], p: u32) -> u64
-    ensures { λ r. ⌜ r ≡ spotBuffer (partAt (now (plan .entry)) p) ⌝ }
+    ensures { λ r. ⌜ r ≡ spotBuffer (partAt (was plan) p) ⌝ }
 {
     match plan::parts::part_at(plan, p as usize) {
         Spot::Of { node: _, buffer } => buffer as u64,
@@ -140,7 +141,7 @@ pub extern "C" fn lafkuno_copy(
     start: u64,
     end: u64,
 ) -> u8
-    ensures { λ r. ⌜ Answers (copyOrder (lent (now (plan .entry)) (now (parts .entry)) (now (sources .entry)) (now (lengths .entry)) (now (places .entry)) (now (body .entry))) (now (counters .entry)) (now (room .entry)) source start end) r (now (counters .exit)) (now (room .exit)) ⌝ }
+    ensures { λ r. ⌜ Answers (copyOrder (lent (was plan) (was parts) (was sources) (was lengths) (was places) (was body)) (was counters) (was room) source start end) r (left counters) (left room) ⌝ }
 {
     transform::try_extend(
         plan,
@@ -166,7 +167,7 @@ pub extern "C" fn lafkuno_nulls(
     room: &mut [u8],
     n: u64,
 ) -> u8
-    ensures { λ r. ⌜ ((sources lengths places body : List ℕ) → Answers (nullOrder (lent (now (plan .entry)) (now (parts .entry)) sources lengths places body) (now (counters .entry)) (now (room .entry)) n) r (now (counters .exit)) (now (room .exit))) ⌝ }
+    ensures { λ r. ⌜ ((sources lengths places body : List ℕ) → Answers (nullOrder (lent (was plan) (was parts) sources lengths places body) (was counters) (was room) n) r (left counters) (left room)) ⌝ }
 {
     transform::try_extend_nulls(plan, parts, counters, room, n)
 }
@@ -191,7 +192,7 @@ pub extern "C" fn lafkuno_finish(
     new_places: &mut [u64],
     new_buffers: &mut [u64],
 ) -> u8
-    ensures { λ r. ⌜ Finished.Answers (finishing (lent (now (plan .entry)) (now (parts .entry)) (now (sources .entry)) (now (lengths .entry)) (now (places .entry)) (now (body .entry))) (now (buffers .entry)) (now (counters .entry)) (now (room .entry)) base (now («new_lengths» .entry)) (now («new_nulls» .entry)) (now («new_places» .entry)) (now («new_buffers» .entry))) r (now («new_lengths» .exit)) (now («new_nulls» .exit)) (now («new_places» .exit)) (now («new_buffers» .exit)) ⌝ }
+    ensures { λ r. ⌜ Finished.Answers (finishing (lent (was plan) (was parts) (was sources) (was lengths) (was places) (was body)) (was buffers) (was counters) (was room) base (was «new_lengths») (was «new_nulls») (was «new_places») (was «new_buffers»)) r (left «new_lengths») (left «new_nulls») (left «new_places») (left «new_buffers») ⌝ }
 {
     into_builder::into_builder(
         plan,
@@ -214,7 +215,7 @@ pub extern "C" fn lafkuno_finish(
 // How many data buffers the finished array names: the table of them has two numbers for each.
 #[no_mangle]
 pub extern "C" fn lafkuno_buffer_total(plan: &[u64], sources: &[u32], places: &[u64]) -> u64
-    ensures { λ r. ⌜ ((parts lengths body buffers counters room : List ℕ) (base : ℕ) → r ≡ buffersBefore (lent (now (plan .entry)) parts (now (sources .entry)) lengths (now (places .entry)) body) buffers counters room base (nodesOf (now (plan .entry)))) ⌝ }
+    ensures { λ r. ⌜ ((parts lengths body buffers counters room : List ℕ) (base : ℕ) → r ≡ buffersBefore (lent (was plan) parts (was sources) lengths (was places) body) buffers counters room base (nodesOf (was plan))) ⌝ }
 {
     into_builder::buffer_total(plan, sources, places)
 }
@@ -222,7 +223,7 @@ pub extern "C" fn lafkuno_buffer_total(plan: &[u64], sources: &[u32], places: &[
 // The running null count.
 #[no_mangle]
 pub extern "C" fn lafkuno_running_nulls(counters: &[u64]) -> u64
-    ensures { λ r. ⌜ r ≡ nulls (now (counters .entry)) 0 ⌝ }
+    ensures { λ r. ⌜ r ≡ nulls (was counters) 0 ⌝ }
 {
     into_builder::running_nulls(counters)
 }
@@ -239,7 +240,7 @@ pub extern "C" fn lafkuno_measure_open(
     body: &[u8],
     counters: &mut [u64],
 ) -> u8
-    ensures { λ r. ⌜ Measures (openMeasure (lent (now (plan .entry)) [] (now (sources .entry)) (now (lengths .entry)) (now (places .entry)) (now (body .entry))) (now (counters .entry))) r (now (counters .exit)) ⌝ }
+    ensures { λ r. ⌜ Measures (openMeasure (lent (was plan) [] (was sources) (was lengths) (was places) (was body)) (was counters)) r (left counters) ⌝ }
 {
     measure::measure_open(plan, sources, lengths, places, body, counters)
 }
@@ -257,7 +258,7 @@ pub extern "C" fn lafkuno_measure_copy(
     start: u64,
     end: u64,
 ) -> u8
-    ensures { λ r. ⌜ Measures (copyMeasure (now (counters .entry)) (lent (now (plan .entry)) [] (now (sources .entry)) (now (lengths .entry)) (now (places .entry)) (now (body .entry))) source start end) r (now (counters .exit)) ⌝ }
+    ensures { λ r. ⌜ Measures (copyMeasure (was counters) (lent (was plan) [] (was sources) (was lengths) (was places) (was body)) source start end) r (left counters) ⌝ }
 {
     measure::measure_extend(
         plan,
@@ -275,7 +276,7 @@ pub extern "C" fn lafkuno_measure_copy(
 // What n nulls come to in such a room: 0 and the counters after them, or the ground of refusal.
 #[no_mangle]
 pub extern "C" fn lafkuno_measure_nulls(plan: &[u64], counters: &mut [u64], n: u64) -> u8
-    ensures { λ r. ⌜ ((sources lengths places body : List ℕ) → Measures (nullMeasure (now (counters .entry)) (lent (now (plan .entry)) [] sources lengths places body) n) r (now (counters .exit))) ⌝ }
+    ensures { λ r. ⌜ ((sources lengths places body : List ℕ) → Measures (nullMeasure (was counters) (lent (was plan) [] sources lengths places body) n) r (left counters)) ⌝ }
 {
     measure::measure_nulls(plan, counters, n)
 }
@@ -283,7 +284,7 @@ pub extern "C" fn lafkuno_measure_nulls(plan: &[u64], counters: &mut [u64], n: u
 // The bytes that part p must hold by the counters, or the largest number of 64 bits; 0 where there is no such part.
 #[no_mangle]
 pub extern "C" fn lafkuno_needed_bytes(plan: &[u64], counters: &[u64], p: u32) -> u64
-    ensures { λ r. ⌜ r ≡ neededBytes (now (plan .entry)) (now (counters .entry)) p ⌝ }
+    ensures { λ r. ⌜ r ≡ neededBytes (was plan) (was counters) p ⌝ }
 {
     measure::needed_bytes(plan, counters, p)
 }

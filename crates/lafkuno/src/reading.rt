@@ -3,6 +3,7 @@ ghost use mathlib.Core.Path.{_≡_};
 ghost use mathlib.Core.List.{List, [], _∷_, _++_};
 ghost use Prim.Native.Nat.{_≤_};
 ghost use lib.ListN.{length};
+ghost use Rattle.clauses.specs.Slices.{was, left};
 ghost use Rattle.number.specs.Number.{splice, pattern};
 ghost use Rattle.source_rules.specs.kinds.Rows.{tablesOf};
 ghost use Rattle.columns.specs.Grounds.{columnGround};
@@ -29,7 +30,7 @@ pub extern "C" fn lafkuno_column_ground(
     first: u32,
     n: u32,
 ) -> u8
-    ensures { λ r. ⌜ r ≡ columnGround (now (formats .entry)) (now (schema .entry)) (tablesOf (now (lengths .entry)) (now (places .entry)) (now (buffers .entry)) (now (body .entry))) first n ⌝ }
+    ensures { λ r. ⌜ r ≡ columnGround (was formats) (was schema) (tablesOf (was lengths) (was places) (was buffers) (was body)) first n ⌝ }
 {
     columns::column_ground(formats, schema, lengths, places, buffers, body, first, n)
 }
@@ -37,7 +38,7 @@ pub extern "C" fn lafkuno_column_ground(
 // The words into the front of the room.
 pub fn copy_words(room: &mut [u64], words: &[u64])
     requires { ⌜ length (now words) ≤ length (now room) ⌝ }
-    ensures { λ _. ⌜ now (room .exit) ≡ splice 0 (now (words .entry)) (now (room .entry)) ⌝ }
+    ensures { λ _. ⌜ left room ≡ splice 0 (was words) (was room) ⌝ }
 {
     let mut i = 0;
     while i < words.len() {
@@ -67,8 +68,8 @@ pub extern "C" fn lafkuno_open_column(
     n: u32,
     room: &mut [u64],
 ) -> u8
-    ensures { λ r. ⌜ r ≡ openGround (now (formats .entry)) (now (schema .entry)) (tablesOf (now (lengths .entry)) (now (places .entry)) (now (buffers .entry)) (now (body .entry))) first n (now (room .entry)) ⌝ }
-    ensures { λ _. ⌜ now (room .exit) ≡ openTree (now (formats .entry)) (now (schema .entry)) (tablesOf (now (lengths .entry)) (now (places .entry)) (now (buffers .entry)) (now (body .entry))) first n (now (room .entry)) ⌝ }
+    ensures { λ r. ⌜ r ≡ openGround (was formats) (was schema) (tablesOf (was lengths) (was places) (was buffers) (was body)) first n (was room) ⌝ }
+    ensures { λ _. ⌜ left room ≡ openTree (was formats) (was schema) (tablesOf (was lengths) (was places) (was buffers) (was body)) first n (was room) ⌝ }
 {
     let mut tree = [0u64; 256];
     let ground = row_reader::column_reader::open_column(
@@ -204,8 +205,8 @@ pub extern "C" fn lafkuno_read_row(
     row: u64,
     answer: &mut [u64],
 ) -> u8
-    ensures { λ r. ⌜ r ≡ readKind (now (tree .entry)) (column (now (lengths .entry)) (now (places .entry)) (now (buffers .entry)) (now (body .entry)) first) row (now (answer .entry)) ⌝ }
-    ensures { λ _. ⌜ now (answer .exit) ≡ readNumbers (now (tree .entry)) (column (now (lengths .entry)) (now (places .entry)) (now (buffers .entry)) (now (body .entry)) first) row (now (answer .entry)) ⌝ }
+    ensures { λ r. ⌜ r ≡ readKind (was tree) (column (was lengths) (was places) (was buffers) (was body) first) row (was answer) ⌝ }
+    ensures { λ _. ⌜ left answer ≡ readNumbers (was tree) (column (was lengths) (was places) (was buffers) (was body) first) row (was answer) ⌝ }
 {
     let mut ids = [0u8; 8];
     let found = row_reader::row_at(tree, lengths, places, buffers, body, first, row, &mut ids);
@@ -237,8 +238,8 @@ pub extern "C" fn lafkuno_run_at(
     row: u64,
     answer: &mut [u64],
 ) -> u8
-    ensures { λ r. ⌜ r ≡ ground (readRun (now (formats .entry)) (now (schema .entry)) (tablesOf (now (lengths .entry)) (now (places .entry)) (now (buffers .entry)) (now (body .entry))) first n row) (now (answer .entry)) ⌝ }
-    ensures { λ _. ⌜ now (answer .exit) ≡ numbers (readRun (now (formats .entry)) (now (schema .entry)) (tablesOf (now (lengths .entry)) (now (places .entry)) (now (buffers .entry)) (now (body .entry))) first n row) (now (answer .entry)) ⌝ }
+    ensures { λ r. ⌜ r ≡ ground (readRun (was formats) (was schema) (tablesOf (was lengths) (was places) (was buffers) (was body)) first n row) (was answer) ⌝ }
+    ensures { λ _. ⌜ left answer ≡ numbers (readRun (was formats) (was schema) (tablesOf (was lengths) (was places) (was buffers) (was body)) first n row) (was answer) ⌝ }
 {
     runs::run_at(
         formats,
@@ -265,8 +266,8 @@ pub extern "C" fn lafkuno_read_run(
     row: u64,
     answer: &mut [u64],
 ) -> u8
-    ensures { λ r. ⌜ r ≡ ground (runAt (now (tree .entry)) (column (now (lengths .entry)) (now (places .entry)) [] (now (body .entry)) first) row) (now (answer .entry)) ⌝ }
-    ensures { λ _. ⌜ now (answer .exit) ≡ numbers (runAt (now (tree .entry)) (column (now (lengths .entry)) (now (places .entry)) [] (now (body .entry)) first) row) (now (answer .entry)) ⌝ }
+    ensures { λ r. ⌜ r ≡ ground (runAt (was tree) (column (was lengths) (was places) [] (was body) first) row) (was answer) ⌝ }
+    ensures { λ _. ⌜ left answer ≡ numbers (runAt (was tree) (column (was lengths) (was places) [] (was body) first) row) (was answer) ⌝ }
 {
     runs::run_of_opened(tree, lengths, places, body, first, row, answer)
 }

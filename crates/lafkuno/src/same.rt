@@ -1,5 +1,6 @@
 // Whether two rows read the same.
 ghost use mathlib.Core.Path.{_≡_};
+ghost use Rattle.clauses.specs.Slices.{was, left};
 ghost use Rattle.source_rules.specs.kinds.Rows.{tablesOf};
 ghost use Rattle.row_reader.specs.row_pair.Same.{sameRow};
 ghost use Rattle.lafkuno.specs.Same.{sameGround, sameNumbers};
@@ -27,8 +28,8 @@ pub extern "C" fn lafkuno_same_row(
     row_b: u64,
     answer: &mut [u64],
 ) -> u8
-    ensures { λ r. ⌜ r ≡ sameGround (sameRow (now (formats .entry)) (now (schema .entry)) (tablesOf (now (lengths .entry)) (now (places .entry)) (now (buffers .entry)) (now (body .entry))) «first_a» «n_a» «first_b» «n_b» «row_a» «row_b») (now (answer .entry)) ⌝ }
-    ensures { λ _. ⌜ now (answer .exit) ≡ sameNumbers (sameRow (now (formats .entry)) (now (schema .entry)) (tablesOf (now (lengths .entry)) (now (places .entry)) (now (buffers .entry)) (now (body .entry))) «first_a» «n_a» «first_b» «n_b» «row_a» «row_b») (now (answer .entry)) ⌝ }
+    ensures { λ r. ⌜ r ≡ sameGround (sameRow (was formats) (was schema) (tablesOf (was lengths) (was places) (was buffers) (was body)) «first_a» «n_a» «first_b» «n_b» «row_a» «row_b») (was answer) ⌝ }
+    ensures { λ _. ⌜ left answer ≡ sameNumbers (sameRow (was formats) (was schema) (tablesOf (was lengths) (was places) (was buffers) (was body)) «first_a» «n_a» «first_b» «n_b» «row_a» «row_b») (was answer) ⌝ }
 {
     match row_pair::same_row(
         formats,

@@ -2,6 +2,7 @@
 ghost use mathlib.Core.Path.{_≡_};
 ghost use mathlib.Core.List.{[]};
 ghost use Prim.Native.Nat.{_+_, _*_, _≤_};
+ghost use Rattle.clauses.specs.Slices.{was, left};
 ghost use Rattle.transform.specs.Answer.{lent};
 ghost use Rattle.trip.specs.Trip.{longest, callsOf, tripOrder, tripMeasure};
 ghost use Rattle.lafkuno.specs.Trips.{Carries, Asks};
@@ -27,7 +28,7 @@ pub extern "C" fn lafkuno_orders(
     room: &mut [u8],
     orders: &[u64],
 ) -> u32
-    ensures { λ r. ⌜ Carries (tripOrder (lent (now (plan .entry)) (now (parts .entry)) (now (sources .entry)) (now (lengths .entry)) (now (places .entry)) (now (body .entry))) (now (counters .entry)) (now (room .entry)) (callsOf (now (orders .entry)))) r (now (counters .exit)) (now (room .exit)) ⌝ }
+    ensures { λ r. ⌜ Carries (tripOrder (lent (was plan) (was parts) (was sources) (was lengths) (was places) (was body)) (was counters) (was room) (callsOf (was orders))) r (left counters) (left room) ⌝ }
 {
     answer_word(trip::orders(
         plan,
@@ -53,7 +54,7 @@ pub extern "C" fn lafkuno_measure_orders(
     counters: &mut [u64],
     orders: &[u64],
 ) -> u32
-    ensures { λ r. ⌜ Asks (tripMeasure (lent (now (plan .entry)) [] (now (sources .entry)) (now (lengths .entry)) (now (places .entry)) (now (body .entry))) (now (counters .entry)) (callsOf (now (orders .entry)))) r (now (counters .exit)) ⌝ }
+    ensures { λ r. ⌜ Asks (tripMeasure (lent (was plan) [] (was sources) (was lengths) (was places) (was body)) (was counters) (callsOf (was orders))) r (left counters) ⌝ }
 {
     answer_word(trip::measure_orders(plan, sources, lengths, places, body, counters, orders))
 }

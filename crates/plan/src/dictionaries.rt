@@ -5,7 +5,8 @@ ghost use mathlib.Core.Bool.{Bool, true, false};
 ghost use mathlib.Core.List.{List};
 ghost use mathlib.Core.Option.{some};
 ghost use Prim.Native.Nat.{ℕ, _+_, _<_, _^_};
-ghost use lib.Dec.{leb, eqb};
+ghost use lib.Dec.{eqb};
+ghost use Rattle.clauses.specs.Slices.{was};
 ghost use Rattle.columnar.specs.Types.{Number, limit, keyFits};
 ghost use Rattle.columnar.specs.Array.{nullCount};
 ghost use Rattle.columnar.specs.Test.{same};
@@ -21,7 +22,7 @@ use array_data::lent_tables;
 // Which node of the tables is node i of source s.
 pub fn node_of(sources: &[u32], s: usize, i: usize) -> usize
     requires { ⌜ (s < 2 ^ 32) × (i < 2 ^ 32) ⌝ }
-    ensures { λ r. ⌜ r ≡ firstOf (now (sources .entry)) s + i ⌝ }
+    ensures { λ r. ⌜ r ≡ firstOf (was sources) s + i ⌝ }
     ensures { λ r. ⌜ r < 2 ^ 33 ⌝ }
 {
     (lent_tables::at_u32(sources, 2 * s) as usize) + i
@@ -32,7 +33,7 @@ pub fn node_of(sources: &[u32], s: usize, i: usize) -> usize
 // How many rows of node k are null.
 pub fn null_count(lengths: &[u64], places: &[u64], body: &[u8], k: usize) -> u64
     requires { ⌜ Countable (tables (now lengths) (now places) (now body)) k ⌝ }
-    ensures { λ r. ⌜ r ≡ nullCount (arrayOf (tables (now (lengths .entry)) (now (places .entry)) (now (body .entry))) k) ⌝ }
+    ensures { λ r. ⌜ r ≡ nullCount (arrayOf (tables (was lengths) (was places) (was body)) k) ⌝ }
 {
     if lent_tables::place(places, k, 0) == 0 {
         return 0;
@@ -56,7 +57,7 @@ pub fn any_null(
     i: usize,
 ) -> bool
     requires { ⌜ (m < 2 ^ 32) × (i < 2 ^ 32) × ((s : ℕ) → s < m → Countable (tables (now lengths) (now places) (now body)) (firstOf (now sources) s + i)) ⌝ }
-    ensures { λ r. ⌜ r ≡ keeps false m (arrayAt (tables (now (lengths .entry)) (now (places .entry)) (now (body .entry))) (now (sources .entry)) i) ⌝ }
+    ensures { λ r. ⌜ r ≡ keeps false m (arrayAt (tables (was lengths) (was places) (was body)) (was sources) i) ⌝ }
 {
     let mut s = 0;
     while s < m {
@@ -80,7 +81,7 @@ pub fn keeps(
     i: usize,
 ) -> bool
     requires { ⌜ (m < 2 ^ 32) × (i < 2 ^ 32) × ((s : ℕ) → s < m → Countable (tables (now lengths) (now places) (now body)) (firstOf (now sources) s + i)) ⌝ }
-    ensures { λ r. ⌜ r ≡ keeps above m (arrayAt (tables (now (lengths .entry)) (now (places .entry)) (now (body .entry))) (now (sources .entry)) i) ⌝ }
+    ensures { λ r. ⌜ r ≡ keeps above m (arrayAt (tables (was lengths) (was places) (was body)) (was sources) i) ⌝ }
 {
     if above {
         return true;
@@ -93,7 +94,7 @@ pub fn keeps(
 // Whether no row of node k is null, whatever the tables hold: a bit that the body does not have is a zero.
 fn has_no_null(lengths: &[u64], places: &[u64], body: &[u8], k: usize) -> bool
     requires { ⌜ k < 2 ^ 33 ⌝ }
-    ensures { λ r. ⌜ r ≡ eqb (nullCount (arrayOf (tables (now (lengths .entry)) (now (places .entry)) (now (body .entry))) k)) 0 ⌝ }
+    ensures { λ r. ⌜ r ≡ eqb (nullCount (arrayOf (tables (was lengths) (was places) (was body)) k)) 0 ⌝ }
 {
     if lent_tables::place(places, k, 0) == 0 {
         return true;
@@ -114,7 +115,7 @@ fn has_no_null(lengths: &[u64], places: &[u64], body: &[u8], k: usize) -> bool
 // Whether the validity of the nodes a and b begins at the same place; one without a zero bit among the rows begins nowhere.
 fn same_valid(lengths: &[u64], places: &[u64], body: &[u8], a: usize, b: usize) -> bool
     requires { ⌜ (a < 2 ^ 33) × (b < 2 ^ 33) ⌝ }
-    ensures { λ r. ⌜ r ≡ eqb (validStart (tables (now (lengths .entry)) (now (places .entry)) (now (body .entry))) a) (validStart (tables (now (lengths .entry)) (now (places .entry)) (now (body .entry))) b) ⌝ }
+    ensures { λ r. ⌜ r ≡ eqb (validStart (tables (was lengths) (was places) (was body)) a) (validStart (tables (was lengths) (was places) (was body)) b) ⌝ }
 {
     if has_no_null(lengths, places, body, a) {
         return has_no_null(lengths, places, body, b);
@@ -135,7 +136,7 @@ fn same_starts(
     string: bool,
 ) -> bool
     requires { ⌜ (a < 2 ^ 33) × (b < 2 ^ 33) ⌝ }
-    ensures { λ r. ⌜ r ≡ same (startsOf (tables (now (lengths .entry)) (now (places .entry)) (now (body .entry))) string a) (startsOf (tables (now (lengths .entry)) (now (places .entry)) (now (body .entry))) string b) ⌝ }
+    ensures { λ r. ⌜ r ≡ same (startsOf (tables (was lengths) (was places) (was body)) string a) (startsOf (tables (was lengths) (was places) (was body)) string b) ⌝ }
 {
     let valid = same_valid(lengths, places, body, a, b);
     let first = lent_tables::place(places, a, 3) == lent_tables::place(places, b, 3);
@@ -153,7 +154,7 @@ pub fn ptr_eq(
     string: bool,
 ) -> bool
     requires { ⌜ (a < 2 ^ 33) × (b < 2 ^ 33) ⌝ }
-    ensures { λ r. ⌜ r ≡ ptrEq (dictWith (tables (now (lengths .entry)) (now (places .entry)) (now (body .entry))) string a) (dictWith (tables (now (lengths .entry)) (now (places .entry)) (now (body .entry))) string b) ⌝ }
+    ensures { λ r. ⌜ r ≡ ptrEq (dictWith (tables (was lengths) (was places) (was body)) string a) (dictWith (tables (was lengths) (was places) (was body)) string b) ⌝ }
 {
     let offset = lent_tables::offset_of(lengths, a) == lent_tables::offset_of(lengths, b);
     let length = lent_tables::length_of(lengths, a) == lent_tables::length_of(lengths, b);
@@ -171,7 +172,7 @@ pub fn all_share(
     string: bool,
 ) -> bool
     requires { ⌜ (m < 2 ^ 32) × (i < 2 ^ 32) ⌝ }
-    ensures { λ r. ⌜ r ≡ shared m (dictAt (tables (now (lengths .entry)) (now (places .entry)) (now (body .entry))) (now (sources .entry)) string i) ⌝ }
+    ensures { λ r. ⌜ r ≡ shared m (dictAt (tables (was lengths) (was places) (was body)) (was sources) string i) ⌝ }
 {
     let mut s = 0;
     while s + 1 < m {
@@ -201,7 +202,7 @@ fn add_capped(a: u64, b: u64) -> u64
 // It does not depend on the kind, the places and the bytes of the entries.
 pub fn entries_before(sources: &[u32], lengths: &[u64], i: usize, j: usize) -> u64
     requires { ⌜ (i < 2 ^ 32) × (j < 2 ^ 32) ⌝ }
-    ensures { λ r. ⌜ ((places body : List ℕ) (string : Bool) → r ≡ capped (entriesBefore (dictAt (tables (now (lengths .entry)) places body) (now (sources .entry)) string i) j)) ⌝ }
+    ensures { λ r. ⌜ ((places body : List ℕ) (string : Bool) → r ≡ capped (entriesBefore (dictAt (tables (was lengths) places body) (was sources) string i) j)) ⌝ }
 {
     let mut sum: u64 = 0;
     let mut s = 0;
@@ -225,7 +226,7 @@ pub fn start_of_keys(
     j: usize,
 ) -> u64
     requires { ⌜ (m < 2 ^ 32) × (i < 2 ^ 32) × (j < 2 ^ 32) ⌝ }
-    ensures { λ r. ⌜ r ≡ capped (startOfKeys m (dictAt (tables (now (lengths .entry)) (now (places .entry)) (now (body .entry))) (now (sources .entry)) string i) j) ⌝ }
+    ensures { λ r. ⌜ r ≡ capped (startOfKeys m (dictAt (tables (was lengths) (was places) (was body)) (was sources) string i) j) ⌝ }
 {
     if all_share(sources, lengths, places, body, m, i, string) {
         return 0;

@@ -4,6 +4,7 @@ ghost use mathlib.Core.Bool.{true, _&&_};
 ghost use Prim.Native.Nat.{_+_, _*_, _<_, _≤_};
 ghost use lib.ListN.{length};
 ghost use lib.Dec.{ltb};
+ghost use Rattle.clauses.specs.Slices.{was};
 ghost use Rattle.columnar.specs.Test.{every};
 ghost use Rattle.walk.specs.State.{codeOf};
 ghost use Rattle.plan.specs.parts.Parts.{bufferCount, copied, inRoom, partWithin, partHolds, partsWithin, partsHold};
@@ -14,7 +15,7 @@ use walk::plan_words;
 // Whether part p is in the table and in the room, and holds its bytes.
 fn part_fine(parts: &[u64], m: usize, p: usize, holds: bool) -> bool
     requires { ⌜ p < 4294967298 ⌝ }
-    ensures { λ t. ⌜ (t ≡ true → 0 ≡ verdict (ltb (2 * p + 1) (length (now (parts .entry))) && inRoom (now (parts .entry)) m p) holds) ⌝ }
+    ensures { λ t. ⌜ (t ≡ true → 0 ≡ verdict (ltb (2 * p + 1) (length (was parts)) && inRoom (was parts) m p) holds) ⌝ }
 {
     if parts.len() <= 2 * p + 1 {
         return false;
@@ -28,7 +29,7 @@ fn part_fine(parts: &[u64], m: usize, p: usize, holds: bool) -> bool
 // The validity of node i.
 fn bits_fine(plan: &[u64], counters: &[u64], parts: &[u64], m: usize, i: usize) -> bool
     requires { ⌜ (i < 32) × (copied (now plan) i ≡ true) ⌝ }
-    ensures { λ t. ⌜ (t ≡ true → 0 ≡ verdict (partWithin (now (plan .entry)) (now (parts .entry)) m i 0) (partHolds (now (plan .entry)) (now (counters .entry)) (now (parts .entry)) i 0)) ⌝ }
+    ensures { λ t. ⌜ (t ≡ true → 0 ≡ verdict (partWithin (was plan) (was parts) m i 0) (partHolds (was plan) (was counters) (was parts) i 0)) ⌝ }
 {
     if plan_words::keeps_of(plan, i) == 0 {
         return true;
@@ -45,7 +46,7 @@ fn bits_fine(plan: &[u64], counters: &[u64], parts: &[u64], m: usize, i: usize) 
 // The first buffer of node i, whose code has one.
 fn first_fine(plan: &[u64], counters: &[u64], parts: &[u64], m: usize, i: usize, code: u8) -> bool
     requires { ⌜ (i < 32) × (copied (now plan) i ≡ true) × (code ≡ codeOf (now plan) i) × (1 ≤ bufferCount (codeOf (now plan) i)) ⌝ }
-    ensures { λ t. ⌜ (t ≡ true → 0 ≡ verdict (partWithin (now (plan .entry)) (now (parts .entry)) m i 1) (partHolds (now (plan .entry)) (now (counters .entry)) (now (parts .entry)) i 1)) ⌝ }
+    ensures { λ t. ⌜ (t ≡ true → 0 ≡ verdict (partWithin (was plan) (was parts) m i 1) (partHolds (was plan) (was counters) (was parts) i 1)) ⌝ }
 {
     let p = crate::parts::number_of(plan, i, 1);
     let size = lent_tables::at_u64(parts, 2 * p + 1);
@@ -57,7 +58,7 @@ fn first_fine(plan: &[u64], counters: &[u64], parts: &[u64], m: usize, i: usize,
 // The second buffer of node i, whose code has two.
 fn second_fine(plan: &[u64], counters: &[u64], parts: &[u64], m: usize, i: usize, code: u8) -> bool
     requires { ⌜ (i < 32) × (copied (now plan) i ≡ true) × (code ≡ codeOf (now plan) i) × (2 ≤ bufferCount (codeOf (now plan) i)) ⌝ }
-    ensures { λ t. ⌜ (t ≡ true → 0 ≡ verdict (partWithin (now (plan .entry)) (now (parts .entry)) m i 2) (partHolds (now (plan .entry)) (now (counters .entry)) (now (parts .entry)) i 2)) ⌝ }
+    ensures { λ t. ⌜ (t ≡ true → 0 ≡ verdict (partWithin (was plan) (was parts) m i 2) (partHolds (was plan) (was counters) (was parts) i 2)) ⌝ }
 {
     let p = crate::parts::number_of(plan, i, 2);
     let size = lent_tables::at_u64(parts, 2 * p + 1);
@@ -69,7 +70,7 @@ fn second_fine(plan: &[u64], counters: &[u64], parts: &[u64], m: usize, i: usize
 // All parts of node i.
 fn node_fine(plan: &[u64], counters: &[u64], parts: &[u64], m: usize, i: usize) -> bool
     requires { ⌜ i < 32 ⌝ }
-    ensures { λ t. ⌜ (t ≡ true → 0 ≡ verdict (every (λ b. partWithin (now (plan .entry)) (now (parts .entry)) m i b) 3) (every (λ b. partHolds (now (plan .entry)) (now (counters .entry)) (now (parts .entry)) i b) 3)) ⌝ }
+    ensures { λ t. ⌜ (t ≡ true → 0 ≡ verdict (every (λ b. partWithin (was plan) (was parts) m i b) 3) (every (λ b. partHolds (was plan) (was counters) (was parts) i b) 3)) ⌝ }
 {
     if !crate::parts::is_copied(plan, i) {
         return true;
@@ -93,7 +94,7 @@ fn node_fine(plan: &[u64], counters: &[u64], parts: &[u64], m: usize, i: usize) 
 
 // All parts.
 pub fn all_fine(plan: &[u64], counters: &[u64], parts: &[u64], m: usize) -> bool
-    ensures { λ t. ⌜ (t ≡ true → 0 ≡ verdict (partsWithin (now (plan .entry)) (now (parts .entry)) m) (partsHold (now (plan .entry)) (now (counters .entry)) (now (parts .entry)))) ⌝ }
+    ensures { λ t. ⌜ (t ≡ true → 0 ≡ verdict (partsWithin (was plan) (was parts) m) (partsHold (was plan) (was counters) (was parts))) ⌝ }
 {
     let n = crate::parts::node_count(plan);
     let mut i = 0;

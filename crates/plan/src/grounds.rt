@@ -4,6 +4,7 @@ ghost use mathlib.Core.Bool.{true, cond, _&&_};
 ghost use Prim.Native.Nat.{_+_, _*_, _<_};
 ghost use lib.ListN.{length};
 ghost use lib.Dec.{ltb};
+ghost use Rattle.clauses.specs.Slices.{was};
 ghost use Rattle.columnar.specs.Test.{every};
 ghost use Rattle.plan.specs.parts.Parts.{copied, inRoom, partWithin, partHolds, partsWithin, partsHold};
 ghost use Rattle.plan.specs.grounds.Verdict.{worseOf, verdict};
@@ -23,7 +24,7 @@ fn worse(a: u8, b: u8) -> u8
 // 14 where part p is not in the table or not in the room, and else 13 where it does not hold its bytes.
 fn part_ground(parts: &[u64], m: usize, p: usize, holds: bool) -> u8
     requires { ⌜ p < 4294967298 ⌝ }
-    ensures { λ r. ⌜ r ≡ verdict (ltb (2 * p + 1) (length (now (parts .entry))) && inRoom (now (parts .entry)) m p) holds ⌝ }
+    ensures { λ r. ⌜ r ≡ verdict (ltb (2 * p + 1) (length (was parts)) && inRoom (was parts) m p) holds ⌝ }
 {
     if parts.len() <= 2 * p + 1 {
         return 14;
@@ -40,7 +41,7 @@ fn part_ground(parts: &[u64], m: usize, p: usize, holds: bool) -> u8
 // The validity of node i.
 fn validity_ground(plan: &[u64], counters: &[u64], parts: &[u64], m: usize, i: usize) -> u8
     requires { ⌜ (i < 32) × (copied (now plan) i ≡ true) ⌝ }
-    ensures { λ r. ⌜ r ≡ verdict (partWithin (now (plan .entry)) (now (parts .entry)) m i 0) (partHolds (now (plan .entry)) (now (counters .entry)) (now (parts .entry)) i 0) ⌝ }
+    ensures { λ r. ⌜ r ≡ verdict (partWithin (was plan) (was parts) m i 0) (partHolds (was plan) (was counters) (was parts) i 0) ⌝ }
 {
     if plan_words::keeps_of(plan, i) == 0 {
         return 0;
@@ -57,7 +58,7 @@ fn validity_ground(plan: &[u64], counters: &[u64], parts: &[u64], m: usize, i: u
 // The first buffer of node i.
 fn first_ground(plan: &[u64], counters: &[u64], parts: &[u64], m: usize, i: usize) -> u8
     requires { ⌜ (i < 32) × (copied (now plan) i ≡ true) ⌝ }
-    ensures { λ r. ⌜ r ≡ verdict (partWithin (now (plan .entry)) (now (parts .entry)) m i 1) (partHolds (now (plan .entry)) (now (counters .entry)) (now (parts .entry)) i 1) ⌝ }
+    ensures { λ r. ⌜ r ≡ verdict (partWithin (was plan) (was parts) m i 1) (partHolds (was plan) (was counters) (was parts) i 1) ⌝ }
 {
     let code = plan_words::code_of(plan, i);
     if crate::parts::buffer_count(code) < 1 {
@@ -73,7 +74,7 @@ fn first_ground(plan: &[u64], counters: &[u64], parts: &[u64], m: usize, i: usiz
 // The second buffer of node i.
 fn second_ground(plan: &[u64], counters: &[u64], parts: &[u64], m: usize, i: usize) -> u8
     requires { ⌜ (i < 32) × (copied (now plan) i ≡ true) ⌝ }
-    ensures { λ r. ⌜ r ≡ verdict (partWithin (now (plan .entry)) (now (parts .entry)) m i 2) (partHolds (now (plan .entry)) (now (counters .entry)) (now (parts .entry)) i 2) ⌝ }
+    ensures { λ r. ⌜ r ≡ verdict (partWithin (was plan) (was parts) m i 2) (partHolds (was plan) (was counters) (was parts) i 2) ⌝ }
 {
     let code = plan_words::code_of(plan, i);
     if crate::parts::buffer_count(code) < 2 {
@@ -89,7 +90,7 @@ fn second_ground(plan: &[u64], counters: &[u64], parts: &[u64], m: usize, i: usi
 // All parts of node i.
 fn node_ground(plan: &[u64], counters: &[u64], parts: &[u64], m: usize, i: usize) -> u8
     requires { ⌜ i < 32 ⌝ }
-    ensures { λ r. ⌜ r ≡ verdict (every (λ b. partWithin (now (plan .entry)) (now (parts .entry)) m i b) 3) (every (λ b. partHolds (now (plan .entry)) (now (counters .entry)) (now (parts .entry)) i b) 3) ⌝ }
+    ensures { λ r. ⌜ r ≡ verdict (every (λ b. partWithin (was plan) (was parts) m i b) 3) (every (λ b. partHolds (was plan) (was counters) (was parts) i b) 3) ⌝ }
 {
     if !crate::parts::is_copied(plan, i) {
         return 0;
@@ -102,7 +103,7 @@ fn node_ground(plan: &[u64], counters: &[u64], parts: &[u64], m: usize, i: usize
 
 // 14 where a part is not in the table or does not lie in a room of m bytes, and else 13 where one cannot hold its bytes.
 pub fn parts_ground(plan: &[u64], counters: &[u64], parts: &[u64], m: usize) -> u8
-    ensures { λ r. ⌜ r ≡ cond (partsWithin (now (plan .entry)) (now (parts .entry)) m) (cond (partsHold (now (plan .entry)) (now (counters .entry)) (now (parts .entry))) 0 13) 14 ⌝ }
+    ensures { λ r. ⌜ r ≡ cond (partsWithin (was plan) (was parts) m) (cond (partsHold (was plan) (was counters) (was parts)) 0 13) 14 ⌝ }
 {
     if crate::fine::all_fine(plan, counters, parts, m) {
         return 0;

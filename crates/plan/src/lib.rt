@@ -8,6 +8,7 @@ pub mod placed;
 ghost use mathlib.Core.Path.{_≡_};
 ghost use Prim.Native.Nat.{ℕ, suc, _+_, _*_, _^_, _≤_, _<_, min};
 ghost use lib.ListN.{getD};
+ghost use Rattle.clauses.specs.Slices.{was, left};
 ghost use Rattle.schema.specs.formats.Code.{isString};
 ghost use Rattle.walk.specs.State.{codeOf};
 ghost use Rattle.array_data.specs.lent_tables.Lent.{tables};
@@ -23,7 +24,7 @@ use walk::plan_words;
 
 // The words of the type tree, and zeros behind them.
 fn write_tree(tree: &[u64; 256], plan: &mut [u64; plan_words::WORDS])
-    ensures { λ _. ⌜ now (plan .exit) ≡ withTree (now (tree .entry)) ⌝ }
+    ensures { λ _. ⌜ left plan ≡ withTree (was tree) ⌝ }
 {
     *plan = [0u64; plan_words::WORDS];
     let mut q = 0;
@@ -38,7 +39,7 @@ fn write_tree(tree: &[u64; 256], plan: &mut [u64; plan_words::WORDS])
 // The node above node i: the last one before it whose subtree holds it.
 fn parent_of(plan: &[u64; plan_words::WORDS], i: usize) -> usize
     requires { ⌜ i < 32 ⌝ }
-    ensures { λ r. ⌜ r ≡ parentOf (now (plan .entry)) i ⌝ }
+    ensures { λ r. ⌜ r ≡ parentOf (was plan) i ⌝ }
     ensures { λ r. ⌜ r < 32 ⌝ }
 {
     let mut p = i;
@@ -54,7 +55,7 @@ fn parent_of(plan: &[u64; plan_words::WORDS], i: usize) -> usize
 // Whether the caller or the node above asks for the nulls of node i.
 fn is_asked(plan: &[u64; plan_words::WORDS], keep: bool, i: usize) -> bool
     requires { ⌜ i < 32 ⌝ }
-    ensures { λ r. ⌜ r ≡ asked (now (plan .entry)) keep i ⌝ }
+    ensures { λ r. ⌜ r ≡ asked (was plan) keep i ⌝ }
 {
     if i == 0 {
         return keep;
@@ -68,7 +69,7 @@ fn is_asked(plan: &[u64; plan_words::WORDS], keep: bool, i: usize) -> bool
 // Whether node i is the run ends of the node before it.
 fn is_ends(plan: &[u64; plan_words::WORDS], i: usize) -> bool
     requires { ⌜ i < 32 ⌝ }
-    ensures { λ r. ⌜ r ≡ isEnds (now (plan .entry)) i ⌝ }
+    ensures { λ r. ⌜ r ≡ isEnds (was plan) i ⌝ }
 {
     if i == 0 {
         return false;
@@ -88,7 +89,7 @@ fn keep_word(
     i: usize,
 ) -> u64
     requires { ⌜ (m ≤ 16) × (i < 32) × ((s : ℕ) → s < m → Countable (tables (now lengths) (now places) (now body)) (firstOf (now sources) s + i)) ⌝ }
-    ensures { λ r. ⌜ r ≡ keepWord (tables (now (lengths .entry)) (now (places .entry)) (now (body .entry))) (now (sources .entry)) m keep (now (plan .entry)) i ⌝ }
+    ensures { λ r. ⌜ r ≡ keepWord (tables (was lengths) (was places) (was body)) (was sources) m keep (was plan) i ⌝ }
 {
     if is_ends(plan, i) {
         return 0;
@@ -112,7 +113,7 @@ fn write_keeps(
     plan: &mut [u64; plan_words::WORDS],
 )
     requires { ⌜ (m ≤ 16) × (n ≤ 32) × ((s i : ℕ) → s < m → i < n → Countable (tables (now lengths) (now places) (now body)) (firstOf (now sources) s + i)) ⌝ }
-    ensures { λ _. ⌜ now (plan .exit) ≡ withKeeps (tables (now (lengths .entry)) (now (places .entry)) (now (body .entry))) (now (sources .entry)) m keep n (now (plan .entry)) ⌝ }
+    ensures { λ _. ⌜ left plan ≡ withKeeps (tables (was lengths) (was places) (was body)) (was sources) m keep n (was plan) ⌝ }
 {
     let mut i = 0;
     while i < n {
@@ -126,7 +127,7 @@ fn write_keeps(
 // Whether the values of the dictionary whose keys are node i are byte strings.
 fn has_strings(plan: &[u64], i: usize) -> bool
     requires { ⌜ i < 32 ⌝ }
-    ensures { λ r. ⌜ r ≡ isString (codeOf (now (plan .entry)) (suc i)) ⌝ }
+    ensures { λ r. ⌜ r ≡ isString (codeOf (was plan) (suc i)) ⌝ }
 {
     let word = lent_tables::at_u64(plan, 8 * (i + 1));
     schema::formats::is_string((word % 256) as u8)
@@ -143,7 +144,7 @@ fn joined_word(
     i: usize,
 ) -> u64
     requires { ⌜ (m ≤ 16) × (i < 32) ⌝ }
-    ensures { λ r. ⌜ r ≡ joinedWord (tables (now (lengths .entry)) (now (places .entry)) (now (body .entry))) (now (sources .entry)) m (now (plan .entry)) i ⌝ }
+    ensures { λ r. ⌜ r ≡ joinedWord (tables (was lengths) (was places) (was body)) (was sources) m (was plan) i ⌝ }
 {
     if plan_words::dictionary_of(plan, i) == 0 {
         return 0;
@@ -166,7 +167,7 @@ fn write_joined(
     plan: &mut [u64; plan_words::WORDS],
 )
     requires { ⌜ (m ≤ 16) × (n ≤ 32) ⌝ }
-    ensures { λ _. ⌜ now (plan .exit) ≡ withJoined (tables (now (lengths .entry)) (now (places .entry)) (now (body .entry))) (now (sources .entry)) m n (now (plan .entry)) ⌝ }
+    ensures { λ _. ⌜ left plan ≡ withJoined (tables (was lengths) (was places) (was body)) (was sources) m n (was plan) ⌝ }
 {
     let mut i = 0;
     while i < n {
@@ -180,7 +181,7 @@ fn write_joined(
 // How many data buffers node k has; 33 stands for any number above.
 pub fn buffers_of(places: &[u64], k: usize) -> u64
     requires { ⌜ k < 2 ^ 33 ⌝ }
-    ensures { λ r. ⌜ r ≡ min (getD (now (places .entry)) (9 * k + 8) 0) 33 ⌝ }
+    ensures { λ r. ⌜ r ≡ min (getD (was places) (9 * k + 8) 0) 33 ⌝ }
     ensures { λ r. ⌜ r ≤ 33 ⌝ }
 {
     let count = lent_tables::place(places, k, 8);
@@ -193,7 +194,7 @@ pub fn buffers_of(places: &[u64], k: usize) -> u64
 // How many data buffers the sources before source s have at node i.
 pub fn buffers_up_to(sources: &[u32], places: &[u64], i: usize, s: usize) -> u64
     requires { ⌜ (i < 32) × (s ≤ 16) ⌝ }
-    ensures { λ r. ⌜ r ≡ buffersUpTo (now (places .entry)) (now (sources .entry)) i s ⌝ }
+    ensures { λ r. ⌜ r ≡ buffersUpTo (was places) (was sources) i s ⌝ }
     ensures { λ r. ⌜ r ≤ 33 * s ⌝ }
 {
     let mut sum: u64 = 0;
@@ -218,7 +219,7 @@ fn base_word(
     i: usize,
 ) -> u64
     requires { ⌜ (m ≤ 16) × (s ≤ 16) × (i < 32) ⌝ }
-    ensures { λ r. ⌜ r ≡ baseWord (tables (now (lengths .entry)) (now (places .entry)) (now (body .entry))) (now (sources .entry)) m (now (plan .entry)) s i ⌝ }
+    ensures { λ r. ⌜ r ≡ baseWord (tables (was lengths) (was places) (was body)) (was sources) m (was plan) s i ⌝ }
 {
     if schema::formats::is_view(plan_words::code_of(plan, i)) {
         return buffers_up_to(sources, places, i, s);
@@ -240,7 +241,7 @@ fn write_bases(
     plan: &mut [u64; plan_words::WORDS],
 )
     requires { ⌜ m ≤ 16 ⌝ }
-    ensures { λ _. ⌜ now (plan .exit) ≡ withBases (tables (now (lengths .entry)) (now (places .entry)) (now (body .entry))) (now (sources .entry)) m (now (plan .entry)) ⌝ }
+    ensures { λ _. ⌜ left plan ≡ withBases (tables (was lengths) (was places) (was body)) (was sources) m (was plan) ⌝ }
 {
     let mut q = 0;
     while q < 32 * m {
@@ -263,7 +264,7 @@ fn write_bases(
 // The part of the first buffer of each of the first n nodes.
 pub fn write_parts(n: usize, plan: &mut [u64; plan_words::WORDS])
     requires { ⌜ n ≤ 32 ⌝ }
-    ensures { λ _. ⌜ now (plan .exit) ≡ withParts n (now (plan .entry)) ⌝ }
+    ensures { λ _. ⌜ left plan ≡ withParts n (was plan) ⌝ }
 {
     let mut i = 0;
     while i < n {
@@ -282,7 +283,7 @@ pub fn write_type(
     plan: &mut [u64; plan_words::WORDS],
 )
     requires { ⌜ (first < 4294967296) × (n < 4294967296) ⌝ }
-    ensures { λ _. ⌜ now (plan .exit) ≡ withCounts m n (withTree (planted (now (formats .entry)) (now (schema .entry)) first n)) ⌝ }
+    ensures { λ _. ⌜ left plan ≡ withCounts m n (withTree (planted (was formats) (was schema) first n)) ⌝ }
 {
     let mut tree = [0u64; 256];
     node_words::plant(formats, schema, first, n, &mut tree);
@@ -303,7 +304,7 @@ fn lay_out(
     plan: &mut [u64; plan_words::WORDS],
 )
     requires { ⌜ Plannable (tables (now lengths) (now places) (now body)) (now sources) ⌝ }
-    ensures { λ _. ⌜ now (plan .exit) ≡ laidOut (now (formats .entry)) (now (schema .entry)) (tables (now (lengths .entry)) (now (places .entry)) (now (body .entry))) (now (sources .entry)) keep ⌝ }
+    ensures { λ _. ⌜ left plan ≡ laidOut (was formats) (was schema) (tables (was lengths) (was places) (was body)) (was sources) keep ⌝ }
 {
     let m = sources.len() / 2;
     let first = lent_tables::at_u32(sources, 0) as usize;
@@ -339,7 +340,7 @@ pub fn plan(
     plan: &mut [u64; plan_words::WORDS],
 )
     requires { ⌜ Plannable (tables (now lengths) (now places) (now body)) (now sources) ⌝ }
-    ensures { λ _. ⌜ now (plan .exit) ≡ planned (now (formats .entry)) (now (schema .entry)) (tables (now (lengths .entry)) (now (places .entry)) (now (body .entry))) (now (sources .entry)) keep gaps ⌝ }
+    ensures { λ _. ⌜ left plan ≡ planned (was formats) (was schema) (tables (was lengths) (was places) (was body)) (was sources) keep gaps ⌝ }
 {
     lay_out(sources, formats, schema, lengths, places, body, keep, plan);
     plan[plan_words::GAPS] = choice_word(gaps);

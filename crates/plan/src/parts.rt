@@ -3,6 +3,7 @@
 ghost use mathlib.Core.Path.{_≡_};
 ghost use Prim.Native.Nat.{_+_, _*_, _≤_, _<_, _/_};
 ghost use lib.Dec.{leb};
+ghost use Rattle.clauses.specs.Slices.{was};
 ghost use Rattle.columnar.specs.Test.{every};
 ghost use Rattle.plan.specs.parts.Parts.{nodesOf, bufferCount, copied, validityParts, bufferParts, partCount, hasPart, partsBefore, partTotal, partWord, numberOf, partAt, entrySize, neededBy, partHolds, partsHold, partWithin, partsWithin};
 use array_data::lent_tables;
@@ -44,7 +45,7 @@ const BUFFERS: [u8; 24] = [
 
 // How many nodes the type has, at most 32.
 pub fn node_count(plan: &[u64]) -> usize
-    ensures { λ r. ⌜ r ≡ nodesOf (now (plan .entry)) ⌝ }
+    ensures { λ r. ⌜ r ≡ nodesOf (was plan) ⌝ }
     ensures { λ r. ⌜ r ≤ 32 ⌝ }
 {
     let n = lent_tables::at_u64(plan, plan_words::NODE_COUNT);
@@ -65,7 +66,7 @@ pub fn buffer_count(code: u8) -> u8
 // Whether node i is copied: the values of a dictionary are, if it is joined.
 pub fn is_copied(plan: &[u64], i: usize) -> bool
     requires { ⌜ i < 32 ⌝ }
-    ensures { λ r. ⌜ r ≡ copied (now (plan .entry)) i ⌝ }
+    ensures { λ r. ⌜ r ≡ copied (was plan) i ⌝ }
 {
     if i == 0 {
         return true;
@@ -79,7 +80,7 @@ pub fn is_copied(plan: &[u64], i: usize) -> bool
 // 1 if node i has a part for its validity and else 0.
 fn validity_parts(plan: &[u64], i: usize) -> usize
     requires { ⌜ i < 32 ⌝ }
-    ensures { λ r. ⌜ r ≡ validityParts (now (plan .entry)) i ⌝ }
+    ensures { λ r. ⌜ r ≡ validityParts (was plan) i ⌝ }
     ensures { λ r. ⌜ r ≤ 1 ⌝ }
 {
     if !is_copied(plan, i) {
@@ -98,7 +99,7 @@ fn validity_parts(plan: &[u64], i: usize) -> usize
 // How many buffers of node i have a part.
 fn buffer_parts(plan: &[u64], i: usize) -> usize
     requires { ⌜ i < 32 ⌝ }
-    ensures { λ r. ⌜ r ≡ bufferParts (now (plan .entry)) i ⌝ }
+    ensures { λ r. ⌜ r ≡ bufferParts (was plan) i ⌝ }
     ensures { λ r. ⌜ r ≤ 2 ⌝ }
 {
     if !is_copied(plan, i) {
@@ -110,7 +111,7 @@ fn buffer_parts(plan: &[u64], i: usize) -> usize
 // How many parts node i has.
 fn part_count(plan: &[u64], i: usize) -> usize
     requires { ⌜ i < 32 ⌝ }
-    ensures { λ r. ⌜ r ≡ partCount (now (plan .entry)) i ⌝ }
+    ensures { λ r. ⌜ r ≡ partCount (was plan) i ⌝ }
     ensures { λ r. ⌜ r ≤ 3 ⌝ }
 {
     validity_parts(plan, i) + buffer_parts(plan, i)
@@ -119,7 +120,7 @@ fn part_count(plan: &[u64], i: usize) -> usize
 // Whether buffer b of node i has a part.
 pub fn has_part(plan: &[u64], i: usize, b: usize) -> bool
     requires { ⌜ i < 32 ⌝ }
-    ensures { λ r. ⌜ r ≡ hasPart (now (plan .entry)) i b ⌝ }
+    ensures { λ r. ⌜ r ≡ hasPart (was plan) i b ⌝ }
 {
     if b == 0 {
         return validity_parts(plan, i) == 1;
@@ -130,7 +131,7 @@ pub fn has_part(plan: &[u64], i: usize, b: usize) -> bool
 // How many parts the nodes before node i have.
 pub fn parts_before(plan: &[u64], i: usize) -> usize
     requires { ⌜ i ≤ 32 ⌝ }
-    ensures { λ r. ⌜ r ≡ partsBefore (now (plan .entry)) i ⌝ }
+    ensures { λ r. ⌜ r ≡ partsBefore (was plan) i ⌝ }
     ensures { λ r. ⌜ r ≤ 96 ⌝ }
 {
     let mut sum: usize = 0;
@@ -144,7 +145,7 @@ pub fn parts_before(plan: &[u64], i: usize) -> usize
 
 // How many parts there are.
 pub fn part_total(plan: &[u64]) -> usize
-    ensures { λ r. ⌜ r ≡ partTotal (now (plan .entry)) ⌝ }
+    ensures { λ r. ⌜ r ≡ partTotal (was plan) ⌝ }
     ensures { λ r. ⌜ r ≤ 96 ⌝ }
 {
     parts_before(plan, node_count(plan))
@@ -153,14 +154,14 @@ pub fn part_total(plan: &[u64]) -> usize
 // The part of node i's first buffer, as the opening writes it into the plan.
 pub fn part_word(plan: &[u64], i: usize) -> u64
     requires { ⌜ i < 32 ⌝ }
-    ensures { λ r. ⌜ r ≡ partWord (now (plan .entry)) i ⌝ }
+    ensures { λ r. ⌜ r ≡ partWord (was plan) i ⌝ }
 {
     (parts_before(plan, i) + validity_parts(plan, i)) as u64
 }
 
 // The node and the buffer of part p.
 pub fn part_at(plan: &[u64], p: usize) -> Spot
-    ensures { λ r. ⌜ r ≡ partAt (now (plan .entry)) p ⌝ }
+    ensures { λ r. ⌜ r ≡ partAt (was plan) p ⌝ }
 {
     let n = node_count(plan);
     let mut left = p;
@@ -182,7 +183,7 @@ pub fn part_at(plan: &[u64], p: usize) -> Spot
 // The part of buffer b of node i, by the plan.
 pub fn number_of(plan: &[u64], i: usize, b: usize) -> usize
     requires { ⌜ (i < 32) × (b < 3) ⌝ }
-    ensures { λ r. ⌜ r ≡ numberOf (now (plan .entry)) i b ⌝ }
+    ensures { λ r. ⌜ r ≡ numberOf (was plan) i b ⌝ }
     ensures { λ r. ⌜ r < 4294967298 ⌝ }
 {
     let p = plan_words::part_of(plan, i) + b;
@@ -274,7 +275,7 @@ fn part_holds(
     b: usize,
 ) -> bool
     requires { ⌜ (i < 32) × (b < 3) ⌝ }
-    ensures { λ r. ⌜ r ≡ partHolds (now (plan .entry)) (now (counters .entry)) (now (parts .entry)) i b ⌝ }
+    ensures { λ r. ⌜ r ≡ partHolds (was plan) (was counters) (was parts) i b ⌝ }
 {
     if !has_part(plan, i, b) {
         return true;
@@ -289,7 +290,7 @@ fn part_holds(
 // Whether every part of node i holds its bytes.
 fn node_holds(plan: &[u64], counters: &[u64; plan_words::COUNTERS], parts: &[u64], i: usize) -> bool
     requires { ⌜ i < 32 ⌝ }
-    ensures { λ r. ⌜ r ≡ every (λ b. partHolds (now (plan .entry)) (now (counters .entry)) (now (parts .entry)) i b) 3 ⌝ }
+    ensures { λ r. ⌜ r ≡ every (λ b. partHolds (was plan) (was counters) (was parts) i b) 3 ⌝ }
 {
     let validity = part_holds(plan, counters, parts, i, 0);
     let first = part_holds(plan, counters, parts, i, 1);
@@ -305,7 +306,7 @@ pub fn nodes_hold(
     parts: &[u64],
 ) -> bool
     requires { ⌜ n ≤ 32 ⌝ }
-    ensures { λ r. ⌜ r ≡ every (λ i. every (λ b. partHolds (now (plan .entry)) (now (counters .entry)) (now (parts .entry)) i b) 3) n ⌝ }
+    ensures { λ r. ⌜ r ≡ every (λ i. every (λ b. partHolds (was plan) (was counters) (was parts) i b) 3) n ⌝ }
 {
     let mut i = 0;
     while i < n {
@@ -319,7 +320,7 @@ pub fn nodes_hold(
 
 // Whether every part holds its bytes: ground 13 where not.
 pub fn parts_hold(plan: &[u64], counters: &[u64; plan_words::COUNTERS], parts: &[u64]) -> bool
-    ensures { λ r. ⌜ r ≡ partsHold (now (plan .entry)) (now (counters .entry)) (now (parts .entry)) ⌝ }
+    ensures { λ r. ⌜ r ≡ partsHold (was plan) (was counters) (was parts) ⌝ }
 {
     nodes_hold(plan, node_count(plan), counters, parts)
 }
@@ -327,7 +328,7 @@ pub fn parts_hold(plan: &[u64], counters: &[u64; plan_words::COUNTERS], parts: &
 // Whether buffer b of node i has no part, or one that is in the table and lies in the room.
 fn part_within(plan: &[u64], parts: &[u64], m: usize, i: usize, b: usize) -> bool
     requires { ⌜ (i < 32) × (b < 3) ⌝ }
-    ensures { λ r. ⌜ r ≡ partWithin (now (plan .entry)) (now (parts .entry)) m i b ⌝ }
+    ensures { λ r. ⌜ r ≡ partWithin (was plan) (was parts) m i b ⌝ }
 {
     if !has_part(plan, i, b) {
         return true;
@@ -342,7 +343,7 @@ fn part_within(plan: &[u64], parts: &[u64], m: usize, i: usize, b: usize) -> boo
 // Whether every part of node i is in the table and lies in the room.
 fn node_within(plan: &[u64], parts: &[u64], m: usize, i: usize) -> bool
     requires { ⌜ i < 32 ⌝ }
-    ensures { λ r. ⌜ r ≡ every (λ b. partWithin (now (plan .entry)) (now (parts .entry)) m i b) 3 ⌝ }
+    ensures { λ r. ⌜ r ≡ every (λ b. partWithin (was plan) (was parts) m i b) 3 ⌝ }
 {
     let validity = part_within(plan, parts, m, i, 0);
     let first = part_within(plan, parts, m, i, 1);
@@ -352,7 +353,7 @@ fn node_within(plan: &[u64], parts: &[u64], m: usize, i: usize) -> bool
 
 // Whether every part is in the table and lies in the room: ground 14 where not, at an order.
 pub fn parts_within(plan: &[u64], parts: &[u64], m: usize) -> bool
-    ensures { λ r. ⌜ r ≡ partsWithin (now (plan .entry)) (now (parts .entry)) m ⌝ }
+    ensures { λ r. ⌜ r ≡ partsWithin (was plan) (was parts) m ⌝ }
 {
     let n = node_count(plan);
     let mut i = 0;

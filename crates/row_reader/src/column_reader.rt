@@ -3,6 +3,7 @@
 
 ghost use mathlib.Core.Path.{_≡_};
 ghost use lib.ListN.{length};
+ghost use Rattle.clauses.specs.Slices.{was, left};
 ghost use Rattle.number.specs.Number.{splice};
 ghost use Rattle.source_rules.specs.kinds.Rows.{tablesOf};
 ghost use Rattle.columns.specs.Grounds.{columnGround};
@@ -24,8 +25,8 @@ pub fn open_column(
     n: u32,
     tree: &mut [u64; 256],
 ) -> u8
-    ensures { λ r. ⌜ r ≡ columnGround (now (formats .entry)) (now (schema .entry)) (tablesOf (now (lengths .entry)) (now (places .entry)) (now (buffers .entry)) (now (body .entry))) first n ⌝ }
-    ensures { λ _. ⌜ now (tree .exit) ≡ openedTree (now (formats .entry)) (now (schema .entry)) (tablesOf (now (lengths .entry)) (now (places .entry)) (now (buffers .entry)) (now (body .entry))) first n (now (tree .entry)) ⌝ }
+    ensures { λ r. ⌜ r ≡ columnGround (was formats) (was schema) (tablesOf (was lengths) (was places) (was buffers) (was body)) first n ⌝ }
+    ensures { λ _. ⌜ left tree ≡ openedTree (was formats) (was schema) (tablesOf (was lengths) (was places) (was buffers) (was body)) first n (was tree) ⌝ }
 {
     let ground = columns::column_ground(formats, schema, lengths, places, buffers, body, first, n);
     if ground == 0 {
@@ -54,8 +55,8 @@ pub fn read_row(
     row: u64,
     ids: &mut [u8; 8],
 ) -> RowAnswer
-    ensures { λ r. ⌜ (r .read ≡ readRow (now (formats .entry)) (now (schema .entry)) (tablesOf (now (lengths .entry)) (now (places .entry)) (now (buffers .entry)) (now (body .entry))) first n row .read) × (r .ids ≡ length (readRow (now (formats .entry)) (now (schema .entry)) (tablesOf (now (lengths .entry)) (now (places .entry)) (now (buffers .entry)) (now (body .entry))) first n row .ids)) ⌝ }
-    ensures { λ r. ⌜ now (ids .exit) ≡ splice 0 (readRow (now (formats .entry)) (now (schema .entry)) (tablesOf (now (lengths .entry)) (now (places .entry)) (now (buffers .entry)) (now (body .entry))) first n row .ids) (now (ids .entry)) ⌝ }
+    ensures { λ r. let t = tablesOf (was lengths) (was places) (was buffers) (was body) in ⌜ (r .read ≡ readRow (was formats) (was schema) t first n row .read) × (r .ids ≡ length (readRow (was formats) (was schema) t first n row .ids)) ⌝ }
+    ensures { λ r. ⌜ left ids ≡ splice 0 (readRow (was formats) (was schema) (tablesOf (was lengths) (was places) (was buffers) (was body)) first n row .ids) (was ids) ⌝ }
 {
     let mut tree = [0u64; 256];
     let ground = open_column(

@@ -9,6 +9,7 @@ ghost use mathlib.Core.Path.{_≡_};
 ghost use mathlib.Core.List.{[]};
 ghost use Prim.Native.Nat.{suc, _+_, _≤_, _<_, _^_};
 ghost use lib.ListN.{length};
+ghost use Rattle.clauses.specs.Slices.{was, left};
 ghost use Rattle.number.specs.Number.{splice};
 ghost use Rattle.array_data.specs.Tables.{part, offsetOf};
 ghost use Rattle.array_data.specs.entries.Entries.{column};
@@ -61,7 +62,7 @@ fn find_run(
     rows: u64,
     row: ColumnRow,
 ) -> RowRun
-    ensures { λ r. ⌜ r ≡ runIn w (part (now (body .entry)) start size) off len offset rows (row .0) ⌝ }
+    ensures { λ r. ⌜ r ≡ runIn w (part (was body) start size) off len offset rows (row .0) ⌝ }
 {
     if u64::MAX - off < len {
         return RowRun::Refused(12);
@@ -90,7 +91,7 @@ fn run_of(
     row: ColumnRow,
 ) -> RowRun
     requires { ⌜ i + 2 < 2 ^ 32 ⌝ }
-    ensures { λ r. ⌜ r ≡ runOf (column (now (lengths .entry)) (now (places .entry)) [] (now (body .entry)) first) i (codeWidth (now (tree .entry)) (suc i)) (row .0) ⌝ }
+    ensures { λ r. ⌜ r ≡ runOf (column (was lengths) (was places) [] (was body) first) i (codeWidth (was tree) (suc i)) (row .0) ⌝ }
 {
     let e = i + 1;
     let w = schema::formats::width_of(slot_reader::code_word(tree, e));
@@ -115,7 +116,7 @@ fn step_runs(
 ) -> Step
     requires { ⌜ i + 2 < 2 ^ 32 ⌝ }
     requires { ⌜ offsetOf (column (now lengths) [] [] [] first) i ≤ slot ⌝ }
-    ensures { λ r. ⌜ r ≡ runsStep (column (now (lengths .entry)) (now (places .entry)) [] (now (body .entry)) first) i (codeWidth (now (tree .entry)) (suc i)) slot ⌝ }
+    ensures { λ r. ⌜ r ≡ runsStep (column (was lengths) (was places) [] (was body) first) i (codeWidth (was tree) (suc i)) slot ⌝ }
 {
     let row = ColumnRow(slot - entries::offset_at(lengths, first, i));
     match run_of(tree, lengths, places, body, first, i, row) {
@@ -137,7 +138,7 @@ pub fn run_at(
     first: u32,
     row: ColumnRow,
 ) -> RowRun
-    ensures { λ r. ⌜ r ≡ runAt (now (tree .entry)) (column (now (lengths .entry)) (now (places .entry)) [] (now (body .entry)) first) (row .0) ⌝ }
+    ensures { λ r. ⌜ r ≡ runAt (was tree) (column (was lengths) (was places) [] (was body) first) (row .0) ⌝ }
 {
     if !schema::formats::is_run_end(slot_reader::code_word(tree, 0)) {
         return RowRun::Refused(10);
@@ -160,7 +161,7 @@ fn step_slot(
 ) -> Step
     requires { ⌜ i + 2 < 2 ^ 32 ⌝ }
     requires { ⌜ offsetOf (column (now lengths) [] [] [] first) i ≤ slot ⌝ }
-    ensures { λ r. ⌜ r ≡ stepOn (now (tree .entry)) (column (now (lengths .entry)) (now (places .entry)) (now (buffers .entry)) (now (body .entry)) first) i slot ⌝ }
+    ensures { λ r. ⌜ r ≡ stepOn (was tree) (column (was lengths) (was places) (was buffers) (was body) first) i slot ⌝ }
 {
     let code = slot_reader::code_word(tree, i);
     if schema::formats::is_sparse(code) {
@@ -186,7 +187,7 @@ fn next_step(
     i: usize,
     row: u64,
 ) -> Step
-    ensures { λ r. ⌜ r ≡ stepAt (now (tree .entry)) (column (now (lengths .entry)) (now (places .entry)) (now (buffers .entry)) (now (body .entry)) first) i row ⌝ }
+    ensures { λ r. ⌜ r ≡ stepAt (was tree) (column (was lengths) (was places) (was buffers) (was body) first) i row ⌝ }
 {
     if 32 <= i {
         return Step::Done(RowRead::Refused(9));
@@ -220,7 +221,7 @@ fn read_at(
     depth: usize,
 ) -> Reading
     requires { ⌜ (count + depth ≤ 8) × (length ids ≡ 8) ⌝ }
-    ensures { λ r. ⌜ (r .read ≡ walk (now (tree .entry)) (column (now (lengths .entry)) (now (places .entry)) (now (buffers .entry)) (now (body .entry)) first) depth i row .read) × (r .count ≡ count + length (walk (now (tree .entry)) (column (now (lengths .entry)) (now (places .entry)) (now (buffers .entry)) (now (body .entry)) first) depth i row .ids)) × (r .ids ≡ splice count (walk (now (tree .entry)) (column (now (lengths .entry)) (now (places .entry)) (now (buffers .entry)) (now (body .entry)) first) depth i row .ids) ids) ⌝ }
+    ensures { λ r. let c = column (was lengths) (was places) (was buffers) (was body) first in let w = walk (was tree) c depth i row .ids in ⌜ (r .read ≡ walk (was tree) c depth i row .read) × (r .count ≡ count + length w) × (r .ids ≡ splice count w ids) ⌝ }
 {
     if depth == 0 {
         return Reading {
@@ -299,8 +300,8 @@ pub fn row_at(
     row: u64,
     ids: &mut [u8; 8],
 ) -> RowAnswer
-    ensures { λ r. ⌜ (r .read ≡ rowAt (now (tree .entry)) (column (now (lengths .entry)) (now (places .entry)) (now (buffers .entry)) (now (body .entry)) first) row .read) × (r .ids ≡ length (rowAt (now (tree .entry)) (column (now (lengths .entry)) (now (places .entry)) (now (buffers .entry)) (now (body .entry)) first) row .ids)) ⌝ }
-    ensures { λ r. ⌜ now (ids .exit) ≡ splice 0 (rowAt (now (tree .entry)) (column (now (lengths .entry)) (now (places .entry)) (now (buffers .entry)) (now (body .entry)) first) row .ids) (now (ids .entry)) ⌝ }
+    ensures { λ r. let c = column (was lengths) (was places) (was buffers) (was body) first in ⌜ (r .read ≡ rowAt (was tree) c row .read) × (r .ids ≡ length (rowAt (was tree) c row .ids)) ⌝ }
+    ensures { λ r. ⌜ left ids ≡ splice 0 (rowAt (was tree) (column (was lengths) (was places) (was buffers) (was body) first) row .ids) (was ids) ⌝ }
 {
     if entries::length_at(lengths, first, 0) <= row {
         return RowAnswer {

@@ -2,6 +2,7 @@
 ghost use mathlib.Core.Path.{_≡_};
 ghost use mathlib.Core.List.{[]};
 ghost use Prim.Native.Nat.{_<_, _^_};
+ghost use Rattle.clauses.specs.Slices.{was};
 ghost use Rattle.source_rules.specs.kinds.Rows.{tablesOf};
 ghost use Rattle.array_data.specs.entries.Entries.{column};
 ghost use Rattle.array_data.specs.node_words.Words.{planted};
@@ -27,7 +28,7 @@ pub enum SameAnswer {
 // Whether node i holds numbers and not keys.
 fn is_number(formats: &[u8], schema: &[u32], first: u32, i: usize) -> bool
     requires { ⌜ i < 2 ^ 32 ⌝ }
-    ensures { λ r. ⌜ r ≡ numberNode (now (formats .entry)) (now (schema .entry)) first i ⌝ }
+    ensures { λ r. ⌜ r ≡ numberNode (was formats) (was schema) first i ⌝ }
 {
     if schema::dictionary_of(schema, first as usize, i) != 0 {
         return false;
@@ -37,7 +38,7 @@ fn is_number(formats: &[u8], schema: &[u32], first: u32, i: usize) -> bool
 
 // Whether the column is one of numbers, or a run-end column whose values are.
 fn has_numbers(formats: &[u8], schema: &[u32], first: u32) -> bool
-    ensures { λ r. ⌜ r ≡ ofNumbers (now (formats .entry)) (now (schema .entry)) first ⌝ }
+    ensures { λ r. ⌜ r ≡ ofNumbers (was formats) (was schema) first ⌝ }
 {
     if schema::formats::is_run_end(schema::code_of(formats, schema, first as usize, 0)) {
         return is_number(formats, schema, first, 2);
@@ -60,7 +61,7 @@ fn rows_ground(
     row_a: u64,
     row_b: u64,
 ) -> u8
-    ensures { λ r. ⌜ r ≡ rowsGround (now (formats .entry)) (now (schema .entry)) (tablesOf (now (lengths .entry)) (now (places .entry)) (now (buffers .entry)) (now (body .entry))) «first_a» «n_a» «first_b» «n_b» «row_a» «row_b» ⌝ }
+    ensures { λ r. ⌜ r ≡ rowsGround (was formats) (was schema) (tablesOf (was lengths) (was places) (was buffers) (was body)) «first_a» «n_a» «first_b» «n_b» «row_a» «row_b» ⌝ }
 {
     let ground = columns::column_pair::pair_ground(
         formats,
@@ -123,7 +124,7 @@ fn leaf_at(
     n: u32,
     row: u64,
 ) -> Leaf
-    ensures { λ r. ⌜ r ≡ leafIn (rowAt (planted (now (formats .entry)) (now (schema .entry)) first n) (column (now (lengths .entry)) (now (places .entry)) (now (buffers .entry)) (now (body .entry)) first) row .read) ⌝ }
+    ensures { λ r. ⌜ r ≡ leafIn (rowAt (planted (was formats) (was schema) first n) (column (was lengths) (was places) (was buffers) (was body) first) row .read) ⌝ }
 {
     let mut tree = [0u64; 256];
     node_words::plant(formats, schema, first as usize, n as usize, &mut tree);
@@ -149,7 +150,7 @@ pub fn same_row(
     row_a: u64,
     row_b: u64,
 ) -> SameAnswer
-    ensures { λ r. ⌜ r ≡ sameRow (now (formats .entry)) (now (schema .entry)) (tablesOf (now (lengths .entry)) (now (places .entry)) (now (buffers .entry)) (now (body .entry))) «first_a» «n_a» «first_b» «n_b» «row_a» «row_b» ⌝ }
+    ensures { λ r. ⌜ r ≡ sameRow (was formats) (was schema) (tablesOf (was lengths) (was places) (was buffers) (was body)) «first_a» «n_a» «first_b» «n_b» «row_a» «row_b» ⌝ }
 {
     let ground = rows_ground(
         formats,

@@ -2,6 +2,7 @@
 // stand in it. A column is checked with each call by run_at, or opened once (crate::open_column) and asked by run_of_opened.
 ghost use mathlib.Core.Path.{_≡_};
 ghost use mathlib.Core.List.{[]};
+ghost use Rattle.clauses.specs.Slices.{was, left};
 ghost use Rattle.source_rules.specs.kinds.Rows.{tablesOf};
 ghost use Rattle.array_data.specs.entries.Entries.{column};
 ghost use Rattle.row_reader.specs.Walk.{runAt};
@@ -29,7 +30,7 @@ pub fn read_run(
     n: u32,
     row: ColumnRow,
 ) -> RowRun
-    ensures { λ r. ⌜ r ≡ readRun (now (formats .entry)) (now (schema .entry)) (tablesOf (now (lengths .entry)) (now (places .entry)) (now (buffers .entry)) (now (body .entry))) first n (row .0) ⌝ }
+    ensures { λ r. ⌜ r ≡ readRun (was formats) (was schema) (tablesOf (was lengths) (was places) (was buffers) (was body)) first n (row .0) ⌝ }
 {
     let mut tree = [0u64; 256];
     let refused = crate::column_reader::open_column(
@@ -53,8 +54,8 @@ pub fn read_run(
 // The ground, then 14 where the answer has not 2 numbers, or 0. They are the run and the rows left; a ground leaves them as they
 // were.
 fn put_run(found: RowRun, answer: &mut [u64]) -> u8
-    ensures { λ r. ⌜ r ≡ ground found (now (answer .entry)) ⌝ }
-    ensures { λ _. ⌜ now (answer .exit) ≡ numbers found (now (answer .entry)) ⌝ }
+    ensures { λ r. ⌜ r ≡ ground found (was answer) ⌝ }
+    ensures { λ _. ⌜ left answer ≡ numbers found (was answer) ⌝ }
 {
     match found {
         RowRun::Run { run, left } => {
@@ -82,8 +83,8 @@ pub fn run_at(
     row: u64,
     answer: &mut [u64],
 ) -> u8
-    ensures { λ r. ⌜ r ≡ ground (readRun (now (formats .entry)) (now (schema .entry)) (tablesOf (now (lengths .entry)) (now (places .entry)) (now (buffers .entry)) (now (body .entry))) first n row) (now (answer .entry)) ⌝ }
-    ensures { λ _. ⌜ now (answer .exit) ≡ numbers (readRun (now (formats .entry)) (now (schema .entry)) (tablesOf (now (lengths .entry)) (now (places .entry)) (now (buffers .entry)) (now (body .entry))) first n row) (now (answer .entry)) ⌝ }
+    ensures { λ r. ⌜ r ≡ ground (readRun (was formats) (was schema) (tablesOf (was lengths) (was places) (was buffers) (was body)) first n row) (was answer) ⌝ }
+    ensures { λ _. ⌜ left answer ≡ numbers (readRun (was formats) (was schema) (tablesOf (was lengths) (was places) (was buffers) (was body)) first n row) (was answer) ⌝ }
 {
     let found = read_run(
         formats,
@@ -109,8 +110,8 @@ pub fn run_of_opened(
     row: u64,
     answer: &mut [u64],
 ) -> u8
-    ensures { λ r. ⌜ r ≡ ground (runAt (now (tree .entry)) (column (now (lengths .entry)) (now (places .entry)) [] (now (body .entry)) first) row) (now (answer .entry)) ⌝ }
-    ensures { λ _. ⌜ now (answer .exit) ≡ numbers (runAt (now (tree .entry)) (column (now (lengths .entry)) (now (places .entry)) [] (now (body .entry)) first) row) (now (answer .entry)) ⌝ }
+    ensures { λ r. ⌜ r ≡ ground (runAt (was tree) (column (was lengths) (was places) [] (was body) first) row) (was answer) ⌝ }
+    ensures { λ _. ⌜ left answer ≡ numbers (runAt (was tree) (column (was lengths) (was places) [] (was body) first) row) (was answer) ⌝ }
 {
     let found = crate::run_at(tree, lengths, places, body, first, ColumnRow(row));
     put_run(found, answer)

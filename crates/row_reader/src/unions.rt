@@ -2,6 +2,7 @@
 ghost use mathlib.Core.Path.{_≡_};
 ghost use mathlib.Core.List.{[]};
 ghost use Prim.Native.Nat.{_+_, _≤_, _<_, _^_};
+ghost use Rattle.clauses.specs.Slices.{was};
 ghost use Rattle.array_data.specs.Tables.{firstBuffer, secondBuffer};
 ghost use Rattle.array_data.specs.entries.Entries.{column, entryIn};
 ghost use Rattle.array_data.specs.declared.entries.Entry.the-variants.{Value};
@@ -16,7 +17,7 @@ use slot_reader::RowRead;
 // Where the subtree of node i ends, at most 32.
 fn end_word(tree: &[u64], i: usize) -> usize
     requires { ⌜ i < 2 ^ 32 ⌝ }
-    ensures { λ r. ⌜ r ≡ endWord (now (tree .entry)) i ⌝ }
+    ensures { λ r. ⌜ r ≡ endWord (was tree) i ⌝ }
     ensures { λ r. ⌜ r ≤ 32 ⌝ }
 {
     let end = node_words::word(tree, i, 2);
@@ -29,7 +30,7 @@ fn end_word(tree: &[u64], i: usize) -> usize
 // The child of the union node i that has this id.
 fn find_child(tree: &[u64], i: usize, id: u64) -> Child
     requires { ⌜ i < 2 ^ 32 ⌝ }
-    ensures { λ r. ⌜ r ≡ childOf (now (tree .entry)) i id ⌝ }
+    ensures { λ r. ⌜ r ≡ childOf (was tree) i id ⌝ }
 {
     let end = end_word(tree, i);
     let mut node = i + 1;
@@ -50,7 +51,7 @@ fn find_child(tree: &[u64], i: usize, id: u64) -> Child
 // On to row `row` of the child with this id.
 fn step_into(tree: &[u64], i: usize, id: u64, row: u64) -> Step
     requires { ⌜ i < 2 ^ 32 ⌝ }
-    ensures { λ r. ⌜ r ≡ into (now (tree .entry)) i id row ⌝ }
+    ensures { λ r. ⌜ r ≡ into (was tree) i id row ⌝ }
 {
     if 127 < id {
         return Step::Done(RowRead::Refused(12));
@@ -75,7 +76,7 @@ pub fn step_sparse(
     slot: u64,
 ) -> Step
     requires { ⌜ i < 2 ^ 32 ⌝ }
-    ensures { λ r. ⌜ r ≡ underId (now (tree .entry)) i (entryIn 1 (firstBuffer (column [] (now (places .entry)) [] (now (body .entry)) first) i) slot) (Value slot) ⌝ }
+    ensures { λ r. ⌜ r ≡ underId (was tree) i (entryIn 1 (firstBuffer (column [] (was places) [] (was body) first) i) slot) (Value slot) ⌝ }
 {
     let start = entries::place_at(places, first, i, 3);
     let size = entries::place_at(places, first, i, 4);
@@ -95,7 +96,7 @@ pub fn step_dense(
     slot: u64,
 ) -> Step
     requires { ⌜ i < 2 ^ 32 ⌝ }
-    ensures { λ r. ⌜ r ≡ underId (now (tree .entry)) i (entryIn 1 (firstBuffer (column [] (now (places .entry)) [] (now (body .entry)) first) i) slot) (entryIn 4 (secondBuffer (column [] (now (places .entry)) [] (now (body .entry)) first) i) slot) ⌝ }
+    ensures { λ r. let c = column [] (was places) [] (was body) first in ⌜ r ≡ underId (was tree) i (entryIn 1 (firstBuffer c i) slot) (entryIn 4 (secondBuffer c i) slot) ⌝ }
 {
     let start = entries::place_at(places, first, i, 3);
     let size = entries::place_at(places, first, i, 4);

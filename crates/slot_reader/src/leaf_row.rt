@@ -5,6 +5,7 @@ ghost use mathlib.Core.Bool.{true};
 ghost use Prim.Native.Nat.{_+_, _≤_, _<_};
 ghost use lib.ListN.{length, drop};
 ghost use lib.Ieee.{binary32, binary64, toBits};
+ghost use Rattle.clauses.specs.Slices.{was};
 ghost use Rattle.number.specs.Number.{number};
 ghost use Rattle.columnar.specs.Types.{width};
 ghost use Rattle.columnar.specs.Plain.{value};
@@ -53,8 +54,8 @@ fn double_of(bits: u64) -> Leaf
 pub fn read_leaf(body: &[u8], at: usize, code: u8) -> Leaf
     requires { ⌜ (1 ≤ code) × (code ≤ 10) ⌝ }
     requires { ⌜ at + width (numberOf code) ≤ length (now body) ⌝ }
-    ensures { λ r. ⌜ r ≡ leafOf (numberOf code) (number (width (numberOf code)) (drop at (now (body .entry)))) ⌝ }
-    ensures { λ r. ⌜ leafRow r ≡ value (numberOf code) (number (width (numberOf code)) (drop at (now (body .entry)))) ⌝ }
+    ensures { λ r. ⌜ r ≡ leafOf (numberOf code) (number (width (numberOf code)) (drop at (was body))) ⌝ }
+    ensures { λ r. ⌜ leafRow r ≡ value (numberOf code) (number (width (numberOf code)) (drop at (was body))) ⌝ }
 {
     match code {
         1 => Leaf::Signed(number::read_i8(body, at) as i64),

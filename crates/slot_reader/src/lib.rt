@@ -7,7 +7,7 @@ pub mod view;
 ghost use mathlib.Core.Path.{_≡_};
 ghost use mathlib.Core.List.{[]};
 ghost use Prim.Native.Nat.{suc, _+_, _≤_, _<_, _^_};
-ghost use lib.ListN.{length};
+ghost use Rattle.clauses.specs.Slices.{was};
 ghost use Rattle.array_data.specs.Tables.{part, lengthOf, offsetOf, place, firstBuffer, secondBuffer};
 ghost use Rattle.array_data.specs.entries.Entries.{column, spotIn, entryIn};
 ghost use Rattle.slot_reader.specs.Slots.{codeWord, codeNumber, numberRead, stretchIn, stringRead, dataPlace, viewAt, listViewRead, rowsIn, listRead, storedNumber, storedAt, namedAt, keyed, fixedRead, slotRead};
@@ -30,7 +30,7 @@ pub enum RowRead {
 // The code of node i's format; 0 where it has none.
 pub fn code_word(tree: &[u64], i: usize) -> u8
     requires { ⌜ i < 2 ^ 33 ⌝ }
-    ensures { λ r. ⌜ r ≡ codeWord (now (tree .entry)) i ⌝ }
+    ensures { λ r. ⌜ r ≡ codeWord (was tree) i ⌝ }
 {
     let code = node_words::word(tree, i, 0);
     if schema::formats::LAST_CODE < code {
@@ -43,7 +43,7 @@ pub fn code_word(tree: &[u64], i: usize) -> u8
 
 fn read_number(body: &[u8], start: u64, size: u64, code: u8, slot: u64) -> RowRead
     requires { ⌜ (1 ≤ code) × (code ≤ 10) ⌝ }
-    ensures { λ r. ⌜ r ≡ numberRead (codeNumber code) (part (now (body .entry)) start size) slot ⌝ }
+    ensures { λ r. ⌜ r ≡ numberRead (codeNumber code) (part (was body) start size) slot ⌝ }
 {
     let Spot::At(at) = entries::find_spot(body, start, size, schema::formats::width_of(code), slot)
     else {
@@ -54,7 +54,7 @@ fn read_number(body: &[u8], start: u64, size: u64, code: u8, slot: u64) -> RowRe
 
 // The bytes a .. b - 1 of the buffer.
 fn read_stretch(body: &[u8], start: u64, size: u64, a: u64, b: u64) -> RowRead
-    ensures { λ r. ⌜ r ≡ stretchIn start (part (now (body .entry)) start size) a b ⌝ }
+    ensures { λ r. ⌜ r ≡ stretchIn start (part (was body) start size) a b ⌝ }
 {
     if b < a {
         return RowRead::Refused(12);
@@ -71,7 +71,7 @@ fn read_stretch(body: &[u8], start: u64, size: u64, a: u64, b: u64) -> RowRead
 // A byte string of node i, whose offsets have w bytes.
 fn read_string(places: &[u64], body: &[u8], first: u32, i: usize, w: u8, slot: u64) -> RowRead
     requires { ⌜ i < 2 ^ 32 ⌝ }
-    ensures { λ r. ⌜ r ≡ stringRead w (firstBuffer (column [] (now (places .entry)) [] (now (body .entry)) first) i) (place (column [] (now (places .entry)) [] [] first) i 5) (secondBuffer (column [] (now (places .entry)) [] (now (body .entry)) first) i) slot ⌝ }
+    ensures { λ r. let c = column [] (was places) [] (was body) first in ⌜ r ≡ stringRead w (firstBuffer c i) (place (column [] (was places) [] [] first) i 5) (secondBuffer c i) slot ⌝ }
 {
     let start = entries::place_at(places, first, i, 3);
     let size = entries::place_at(places, first, i, 4);
@@ -89,7 +89,7 @@ fn read_string(places: &[u64], body: &[u8], first: u32, i: usize, w: u8, slot: u
 // Number j of data buffer b of node i: 0 where it begins, 1 its bytes; 0 where the node has no such buffer.
 fn data_place(places: &[u64], buffers: &[u64], first: u32, i: usize, b: u32, j: usize) -> u64
     requires { ⌜ (i < 2 ^ 32) × (j < 2) ⌝ }
-    ensures { λ r. ⌜ r ≡ dataPlace (now (buffers .entry)) (place (column [] (now (places .entry)) [] [] first) i 7) (place (column [] (now (places .entry)) [] [] first) i 8) b j ⌝ }
+    ensures { λ r. ⌜ r ≡ dataPlace (was buffers) (place (column [] (was places) [] [] first) i 7) (place (column [] (was places) [] [] first) i 8) b j ⌝ }
 {
     if entries::place_at(places, first, i, 8) <= b as u64 {
         return 0;
@@ -107,7 +107,7 @@ fn read_view(
     slot: u64,
 ) -> RowRead
     requires { ⌜ i < 2 ^ 32 ⌝ }
-    ensures { λ r. ⌜ r ≡ viewAt (now (body .entry)) (now (buffers .entry)) (place (column [] (now (places .entry)) [] [] first) i 7) (place (column [] (now (places .entry)) [] [] first) i 8) (spotIn (place (column [] (now (places .entry)) [] [] first) i 3) 16 (firstBuffer (column [] (now (places .entry)) [] (now (body .entry)) first) i) slot) ⌝ }
+    ensures { λ r. let c = column [] (was places) [] [] first in ⌜ r ≡ viewAt (was body) (was buffers) (place c i 7) (place c i 8) (spotIn (place c i 3) 16 (firstBuffer (column [] (was places) [] (was body) first) i) slot) ⌝ }
 {
     let start = entries::place_at(places, first, i, 3);
     let size = entries::place_at(places, first, i, 4);
@@ -134,7 +134,7 @@ fn read_view(
 // Where the rows of a list-view stand in the child, which is the next node; offsets and sizes have w bytes.
 fn read_list_view(places: &[u64], body: &[u8], first: u32, i: usize, w: u8, slot: u64) -> RowRead
     requires { ⌜ i < 2 ^ 32 ⌝ }
-    ensures { λ r. ⌜ r ≡ listViewRead w (firstBuffer (column [] (now (places .entry)) [] (now (body .entry)) first) i) (secondBuffer (column [] (now (places .entry)) [] (now (body .entry)) first) i) (suc i) slot ⌝ }
+    ensures { λ r. ⌜ r ≡ listViewRead w (firstBuffer (column [] (was places) [] (was body) first) i) (secondBuffer (column [] (was places) [] (was body) first) i) (suc i) slot ⌝ }
 {
     let start = entries::place_at(places, first, i, 3);
     let size = entries::place_at(places, first, i, 4);
@@ -181,7 +181,7 @@ fn read_list(
     slot: u64,
 ) -> RowRead
     requires { ⌜ i + 1 < 2 ^ 32 ⌝ }
-    ensures { λ r. ⌜ r ≡ listRead w (firstBuffer (column [] (now (places .entry)) [] (now (body .entry)) first) i) (suc i) (lengthOf (column (now (lengths .entry)) [] [] [] first) (suc i)) slot ⌝ }
+    ensures { λ r. ⌜ r ≡ listRead w (firstBuffer (column [] (was places) [] (was body) first) i) (suc i) (lengthOf (column (was lengths) [] [] [] first) (suc i)) slot ⌝ }
 {
     let start = entries::place_at(places, first, i, 3);
     let size = entries::place_at(places, first, i, 4);
@@ -199,7 +199,7 @@ fn read_list(
 
 // The stored bytes of an entry of w bytes.
 fn read_fixed(body: &[u8], start: u64, size: u64, w: u8, slot: u64) -> RowRead
-    ensures { λ r. ⌜ r ≡ storedNumber start w (part (now (body .entry)) start size) slot ⌝ }
+    ensures { λ r. ⌜ r ≡ storedNumber start w (part (was body) start size) slot ⌝ }
 {
     let Spot::At(at) = entries::find_spot(body, start, size, w, slot) else {
         return RowRead::Refused(12);
@@ -220,7 +220,7 @@ fn read_stored(
     slot: u64,
 ) -> RowRead
     requires { ⌜ i < 2 ^ 32 ⌝ }
-    ensures { λ r. ⌜ r ≡ storedAt (now (tree .entry)) (column [] (now (places .entry)) [] (now (body .entry)) first) i slot ⌝ }
+    ensures { λ r. ⌜ r ≡ storedAt (was tree) (column [] (was places) [] (was body) first) i slot ⌝ }
 {
     let code = code_word(tree, i);
     if schema::formats::is_string(code) {
@@ -256,7 +256,7 @@ fn read_dictionary(
     slot: u64,
 ) -> RowRead
     requires { ⌜ i + 1 < 2 ^ 32 ⌝ }
-    ensures { λ r. ⌜ r ≡ keyed (offsetOf (column (now (lengths .entry)) [] [] [] first) (suc i)) (namedAt (now (tree .entry)) (column [] (now (places .entry)) [] (now (body .entry)) first) (suc i)) (entryIn w (firstBuffer (column [] (now (places .entry)) [] (now (body .entry)) first) i) slot) ⌝ }
+    ensures { λ r. let c = column [] (was places) [] (was body) first in ⌜ r ≡ keyed (offsetOf (column (was lengths) [] [] [] first) (suc i)) (namedAt (was tree) c (suc i)) (entryIn w (firstBuffer c i) slot) ⌝ }
 {
     let start = entries::place_at(places, first, i, 3);
     let size = entries::place_at(places, first, i, 4);
@@ -289,7 +289,7 @@ fn read_integer(
     slot: u64,
 ) -> RowRead
     requires { ⌜ (i + 1 < 2 ^ 32) × (1 ≤ code) × (code ≤ 10) ⌝ }
-    ensures { λ r. ⌜ r ≡ fixedRead (now (tree .entry)) (column (now (lengths .entry)) (now (places .entry)) [] (now (body .entry)) first) i (codeNumber code) slot ⌝ }
+    ensures { λ r. ⌜ r ≡ fixedRead (was tree) (column (was lengths) (was places) [] (was body) first) i (codeNumber code) slot ⌝ }
 {
     if node_words::word(tree, i, 1) != 0 {
         return read_dictionary(
@@ -320,7 +320,7 @@ pub fn read_slot(
     slot: u64,
 ) -> RowRead
     requires { ⌜ i + 1 < 2 ^ 32 ⌝ }
-    ensures { λ r. ⌜ r ≡ slotRead (now (tree .entry)) (column (now (lengths .entry)) (now (places .entry)) (now (buffers .entry)) (now (body .entry)) first) i slot ⌝ }
+    ensures { λ r. ⌜ r ≡ slotRead (was tree) (column (was lengths) (was places) (was buffers) (was body) first) i slot ⌝ }
 {
     let code = code_word(tree, i);
     if schema::formats::is_fixed(code) {

@@ -1,5 +1,6 @@
 // The run reader: it keeps the run ends that it was given and answers for one row after another.
 ghost use mathlib.Core.Path.{_≡_};
+ghost use Rattle.clauses.specs.Slices.{was};
 ghost use Rattle.slot_reader.specs.run.Rows.{rowRun, endsRun};
 use run_ends::Found;
 use run_ends::LogicalRow;
@@ -24,7 +25,7 @@ pub struct RunReader<'a> {
 
 // The run of a row that is counted with the offset added, and the rows left in it before `last`.
 fn found_run(ends: &[u8], width: u8, row: LogicalRow, last: LogicalRow) -> Found
-    ensures { λ r. ⌜ r ≡ endsRun (now (ends .entry)) width (last .0) (row .0) ⌝ }
+    ensures { λ r. ⌜ r ≡ endsRun (was ends) width (last .0) (row .0) ⌝ }
 {
     match width {
         2 => run_ends::find_run_i16(ends, 0, ends.len() / 2, row, last),
@@ -36,7 +37,7 @@ fn found_run(ends: &[u8], width: u8, row: LogicalRow, last: LogicalRow) -> Found
 
 // The run of a row of the column whose run ends of `width` bytes are lent.
 pub fn run_of_row(ends: &[u8], offset: u64, len: u64, width: u8, row: ColumnRow) -> RowRun
-    ensures { λ r. ⌜ r ≡ rowRun (now (ends .entry)) offset len width (row .0) ⌝ }
+    ensures { λ r. ⌜ r ≡ rowRun (was ends) offset len width (row .0) ⌝ }
 {
     let i = row.0;
     if len <= i {
@@ -74,7 +75,7 @@ pub fn find<'a>(r: RunReader<'a>, row: ColumnRow) -> RowRun
 
 // The run of a row, by a reader of these run ends: for a caller that keeps none.
 pub fn run_at(ends: &[u8], offset: u64, len: u64, width: u8, row: ColumnRow) -> RowRun
-    ensures { λ t. ⌜ t ≡ rowRun (now (ends .entry)) offset len width (row .0) ⌝ }
+    ensures { λ t. ⌜ t ≡ rowRun (was ends) offset len width (row .0) ⌝ }
 {
     find(new(ends, offset, len, width), row)
 }

@@ -2,6 +2,7 @@
 ghost use mathlib.Core.Path.{_≡_};
 ghost use Prim.Native.Nat.{_+_, _≤_};
 ghost use lib.ListN.{length};
+ghost use Rattle.clauses.specs.Slices.{was};
 ghost use Rattle.slot_reader.specs.view.Place.{placeOf, partOf, Within};
 
 // Where the bytes of a view stand: in the views, in the data, or nowhere in them.
@@ -14,8 +15,8 @@ pub enum Place {
 // The place of the bytes of the view that stands in views at `at`. The data buffer that it names is the `size` bytes of body from `from` on.
 pub fn view_place(views: &[u8], at: usize, body: &[u8], from: usize, size: usize) -> Place
     requires { ⌜ at + 16 ≤ length (now views) ⌝ }
-    ensures { λ r. ⌜ r ≡ placeOf (now (views .entry)) at (length (now (body .entry))) from size ⌝ }
-    ensures { λ r. ⌜ Within (length (now (views .entry))) (length (now (body .entry))) r ⌝ }
+    ensures { λ r. ⌜ r ≡ placeOf (was views) at (length (was body)) from size ⌝ }
+    ensures { λ r. ⌜ Within (length (was views)) (length (was body)) r ⌝ }
 {
     let v = utils::byte_view::from_bytes(views, at);
     let len = v.length as usize;
@@ -47,7 +48,7 @@ pub fn view_bytes<'a>(
     size: usize,
 ) -> &'a [u8]
     requires { ⌜ at + 16 ≤ length (now views) ⌝ }
-    ensures { λ r. ⌜ now r ≡ partOf (now (views .entry)) (now (body .entry)) (placeOf (now (views .entry)) at (length (now (body .entry))) from size) ⌝ }
+    ensures { λ r. ⌜ now r ≡ partOf (was views) (was body) (placeOf (was views) at (length (was body)) from size) ⌝ }
 {
     match view_place(views, at, body, from, size) {
         Place::Inline { at: a, len: n } => &views[a..a + n],

@@ -6,6 +6,7 @@ ghost use mathlib.Core.List.{[], List·Memᴰ};
 ghost use mathlib.Core.Option.{some};
 ghost use Prim.Native.Nat.{ℕ, _+_, _*_, _≤_, _<_, _^_, min};
 ghost use lib.ListN.{length, getD};
+ghost use Rattle.clauses.specs.Slices.{was};
 ghost use Rattle.columnar.specs.Types.{Number, width, limit};
 ghost use Rattle.schema.specs.formats.Types.{numberOf};
 ghost use Rattle.row_rules.specs.slots.Slots.{keysBelow, validKeysBelow};
@@ -35,7 +36,7 @@ const LIMITS: [u64; 11] = [
 // Whether the data buffers of node k stand in the table, and each in the body.
 fn buffers_in(places: &[u64], buffers: &[u64], body: &[u8], k: usize) -> bool
     requires { ⌜ k < 2 ^ 33 ⌝ }
-    ensures { λ r. ⌜ r ≡ buffersIn (tablesOf [] (now (places .entry)) (now (buffers .entry)) (now (body .entry))) k ⌝ }
+    ensures { λ r. ⌜ r ≡ buffersIn (tablesOf [] (was places) (was buffers) (was body)) k ⌝ }
 {
     let first = lent_tables::place(places, k, 7);
     let count = lent_tables::place(places, k, 8);
@@ -56,7 +57,7 @@ fn buffers_in(places: &[u64], buffers: &[u64], body: &[u8], k: usize) -> bool
 // Whether the views of node k are good, null rows left out.
 fn view_rows(lengths: &[u64], places: &[u64], buffers: &[u64], body: &[u8], k: usize) -> bool
     requires { ⌜ Ready (tablesOf (now lengths) (now places) (now buffers) (now body)) k × (buffersIn (tablesOf [] (now places) (now buffers) (now body)) k ≡ true) ⌝ }
-    ensures { λ r. ⌜ r ≡ viewRows (tablesOf (now (lengths .entry)) (now (places .entry)) (now (buffers .entry)) (now (body .entry))) k ⌝ }
+    ensures { λ r. ⌜ r ≡ viewRows (tablesOf (was lengths) (was places) (was buffers) (was body)) k ⌝ }
 {
     let count = lent_tables::count_of(lengths, k);
     if !lent_tables::rows_fit(count, 16, lent_tables::place(places, k, 4)) {
@@ -77,7 +78,7 @@ fn view_rows(lengths: &[u64], places: &[u64], buffers: &[u64], body: &[u8], k: u
 // The rule of a node of views.
 pub fn view_rule(lengths: &[u64], places: &[u64], buffers: &[u64], body: &[u8], k: usize) -> bool
     requires { ⌜ Counted (tablesOf (now lengths) (now places) (now buffers) (now body)) k ⌝ }
-    ensures { λ r. ⌜ r ≡ viewRule (tablesOf (now (lengths .entry)) (now (places .entry)) (now (buffers .entry)) (now (body .entry))) k ⌝ }
+    ensures { λ r. ⌜ r ≡ viewRule (tablesOf (was lengths) (was places) (was buffers) (was body)) k ⌝ }
 {
     if !lent_tables::one_in(lengths, places, body, k) {
         return false;
@@ -106,7 +107,7 @@ fn key_bound(code: u8, values: u64) -> u64
 // Whether each of the n keys of w bytes at `at` is below bound.
 fn keys_below(body: &[u8], at: usize, n: usize, w: u8, bound: u64) -> bool
     requires { ⌜ at + w * n ≤ length (now body) ⌝ }
-    ensures { λ r. ⌜ ((m : Number) → width m ≡ w → r ≡ keysBelow w (now (body .entry)) at bound n) ⌝ }
+    ensures { λ r. ⌜ ((m : Number) → width m ≡ w → r ≡ keysBelow w (was body) at bound n) ⌝ }
 {
     match w {
         1 => slots::keys_below_u8(body, at, n, bound),
@@ -128,7 +129,7 @@ fn valid_keys_below(
     a: usize,
 ) -> bool
     requires { ⌜ (at + w * n ≤ length (now body)) × (8 * from + a + n ≤ 8 * length (now body)) × (a + n < 2 ^ 64) ⌝ }
-    ensures { λ r. ⌜ ((m : Number) → width m ≡ w → r ≡ validKeysBelow w (now (body .entry)) at bound from a n) ⌝ }
+    ensures { λ r. ⌜ ((m : Number) → width m ≡ w → r ≡ validKeysBelow w (was body) at bound from a n) ⌝ }
 {
     match w {
         1 => slots::valid_keys_below_u8(body, at, n, bound, from, a),
@@ -142,7 +143,7 @@ fn valid_keys_below(
 // Whether the keys of node k, of w bytes, are below bound, null rows left out.
 fn key_rows(lengths: &[u64], places: &[u64], body: &[u8], k: usize, w: u8, bound: u64) -> bool
     requires { ⌜ Ready (tables (now lengths) (now places) (now body)) k ⌝ }
-    ensures { λ r. ⌜ ((m : Number) → width m ≡ w → r ≡ keyRows (tables (now (lengths .entry)) (now (places .entry)) (now (body .entry))) k w bound) ⌝ }
+    ensures { λ r. ⌜ ((m : Number) → width m ≡ w → r ≡ keyRows (tables (was lengths) (was places) (was body)) k w bound) ⌝ }
 {
     let count = lent_tables::count_of(lengths, k);
     if !lent_tables::rows_fit(count, w, lent_tables::place(places, k, 4)) {
@@ -161,7 +162,7 @@ fn key_rows(lengths: &[u64], places: &[u64], body: &[u8], k: usize, w: u8, bound
 // The rule of a dictionary node by the code of its keys' format; its values are the next node.
 pub fn dictionary_rule(lengths: &[u64], places: &[u64], body: &[u8], k: usize, code: u8) -> bool
     requires { ⌜ Counted (tables (now lengths) (now places) (now body)) k × (k + 1 < 2 ^ 33) ⌝ }
-    ensures { λ r. ⌜ ((n : Number) → numberOf code ≡ some n → r ≡ dictionaryRule (tables (now (lengths .entry)) (now (places .entry)) (now (body .entry))) k n) ⌝ }
+    ensures { λ r. ⌜ ((n : Number) → numberOf code ≡ some n → r ≡ dictionaryRule (tables (was lengths) (was places) (was body)) k n) ⌝ }
 {
     if !lent_tables::one_in(lengths, places, body, k) {
         return false;
@@ -183,14 +184,14 @@ pub fn dictionary_rule(lengths: &[u64], places: &[u64], body: &[u8], k: usize, c
 // "no validity buffer on a union"
 fn no_mask(lengths: &[u64], places: &[u64], body: &[u8], k: usize) -> bool
     requires { ⌜ Counted (tables (now lengths) (now places) (now body)) k ⌝ }
-    ensures { λ r. ⌜ r ≡ maskOf (tables (now (lengths .entry)) (now (places .entry)) (now (body .entry))) k false ⌝ }
+    ensures { λ r. ⌜ r ≡ maskOf (tables (was lengths) (was places) (was body)) k false ⌝ }
 {
     lent_tables::mask_holds(lengths, places, body, k, false)
 }
 
 // Whether the child of each id has at least count slots; lens has the children's lengths in field order.
 fn children_reach(ids: &[u8], lens: &[u64], count: u64) -> bool
-    ensures { λ r. ⌜ r ≡ reach (now (ids .entry)) (now (lens .entry)) count ⌝ }
+    ensures { λ r. ⌜ r ≡ reach (was ids) (was lens) count ⌝ }
 {
     let mut i = 0;
     while i < ids.len() {
@@ -213,7 +214,7 @@ fn sparse_rows(
     lens: &[u64],
 ) -> bool
     requires { ⌜ Counted (tables (now lengths) (now places) (now body)) k × (oneIn (tables (now lengths) (now places) (now body)) k ≡ true) ⌝ }
-    ensures { λ r. ⌜ r ≡ sparseRows (tables (now (lengths .entry)) (now (places .entry)) (now (body .entry))) k (now (ids .entry)) (now (lens .entry)) ⌝ }
+    ensures { λ r. ⌜ r ≡ sparseRows (tables (was lengths) (was places) (was body)) k (was ids) (was lens) ⌝ }
 {
     let count = lent_tables::count_of(lengths, k);
     if lent_tables::place(places, k, 4) < count {
@@ -238,7 +239,7 @@ pub fn sparse_rule(
     lens: &[u64],
 ) -> bool
     requires { ⌜ Counted (tables (now lengths) (now places) (now body)) k ⌝ }
-    ensures { λ r. ⌜ ((node : ℕ → ℕ) → ((c : ℕ) → List·Memᴰ c (now (ids .entry)) → lengthOf (tables (now (lengths .entry)) (now (places .entry)) (now (body .entry))) (node c) ≡ getD (now (lens .entry)) (fieldOf (now (ids .entry)) c) 0) → r ≡ sparseRule (tables (now (lengths .entry)) (now (places .entry)) (now (body .entry))) k (now (ids .entry)) node) ⌝ }
+    ensures { λ r. let t = tables (was lengths) (was places) (was body) in ⌜ ((node : ℕ → ℕ) → ((c : ℕ) → List·Memᴰ c (was ids) → lengthOf t (node c) ≡ getD (was lens) (fieldOf (was ids) c) 0) → r ≡ sparseRule t k (was ids) node) ⌝ }
 {
     if !lent_tables::one_in(lengths, places, body, k) {
         return false;
@@ -259,7 +260,7 @@ fn dense_rows(
     lens: &[u64],
 ) -> bool
     requires { ⌜ Counted (tables (now lengths) (now places) (now body)) k × (twoIn (tables (now lengths) (now places) (now body)) k ≡ true) ⌝ }
-    ensures { λ r. ⌜ r ≡ denseRows (tables (now (lengths .entry)) (now (places .entry)) (now (body .entry))) k (now (ids .entry)) (now (lens .entry)) ⌝ }
+    ensures { λ r. ⌜ r ≡ denseRows (tables (was lengths) (was places) (was body)) k (was ids) (was lens) ⌝ }
 {
     let count = lent_tables::count_of(lengths, k);
     if lent_tables::place(places, k, 4) < count {
@@ -285,7 +286,7 @@ pub fn dense_rule(
     lens: &[u64],
 ) -> bool
     requires { ⌜ Counted (tables (now lengths) (now places) (now body)) k ⌝ }
-    ensures { λ r. ⌜ ((node : ℕ → ℕ) → ((c : ℕ) → List·Memᴰ c (now (ids .entry)) → lengthOf (tables (now (lengths .entry)) (now (places .entry)) (now (body .entry))) (node c) ≡ getD (now (lens .entry)) (fieldOf (now (ids .entry)) c) 0) → r ≡ denseRule (tables (now (lengths .entry)) (now (places .entry)) (now (body .entry))) k (now (ids .entry)) node) ⌝ }
+    ensures { λ r. let t = tables (was lengths) (was places) (was body) in ⌜ ((node : ℕ → ℕ) → ((c : ℕ) → List·Memᴰ c (was ids) → lengthOf t (node c) ≡ getD (was lens) (fieldOf (was ids) c) 0) → r ≡ denseRule t k (was ids) node) ⌝ }
 {
     if !lent_tables::two_in(lengths, places, body, k) {
         return false;

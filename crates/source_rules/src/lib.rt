@@ -7,7 +7,8 @@ ghost use mathlib.Core.Bool.{true};
 ghost use mathlib.Core.Option.{some};
 ghost use mathlib.Core.List.{List, []};
 ghost use Prim.Native.Nat.{ℕ, _+_, _*_, _≤_, _<_, _^_};
-ghost use lib.ListN.{length, getD};
+ghost use lib.ListN.{getD};
+ghost use Rattle.clauses.specs.Slices.{was};
 ghost use Rattle.columnar.specs.Types.{Number};
 ghost use Rattle.schema.specs.formats.Code.{isUnion, isSparse};
 ghost use Rattle.schema.specs.formats.Types.{numberOf};
@@ -26,7 +27,7 @@ use schema::union_ids;
 // The rule of a node of a fixed-width format by its code: of numbers where it has no dictionary, and else of keys.
 fn number_ok(lengths: &[u64], places: &[u64], body: &[u8], k: usize, code: u8, single: bool) -> bool
     requires { ⌜ Counted (tables (now lengths) (now places) (now body)) k × (k + 1 < 2 ^ 33) ⌝ }
-    ensures { λ r. ⌜ ((m : Number) → numberOf code ≡ some m → r ≡ numberRule (tables (now (lengths .entry)) (now (places .entry)) (now (body .entry))) k single m) ⌝ }
+    ensures { λ r. ⌜ ((m : Number) → numberOf code ≡ some m → r ≡ numberRule (tables (was lengths) (was places) (was body)) k single m) ⌝ }
 {
     if single {
         return nodes::fixed_rule(lengths, places, body, k, schema::formats::width_of(code));
@@ -37,7 +38,7 @@ fn number_ok(lengths: &[u64], places: &[u64], body: &[u8], k: usize, code: u8, s
 // The rule of a node of byte strings with offsets of w bytes.
 fn string_ok(lengths: &[u64], places: &[u64], body: &[u8], k: usize, w: u8) -> bool
     requires { ⌜ Counted (tables (now lengths) (now places) (now body)) k × OffsetWidth w ⌝ }
-    ensures { λ r. ⌜ r ≡ stringRule (tables (now (lengths .entry)) (now (places .entry)) (now (body .entry))) k w ⌝ }
+    ensures { λ r. ⌜ r ≡ stringRule (tables (was lengths) (was places) (was body)) k w ⌝ }
 {
     if w == 4 {
         return nodes::string_rule_i32(lengths, places, body, k);
@@ -48,7 +49,7 @@ fn string_ok(lengths: &[u64], places: &[u64], body: &[u8], k: usize, w: u8) -> b
 // The rule of a list-view node with offsets and sizes of w bytes.
 fn list_view_ok(lengths: &[u64], places: &[u64], body: &[u8], k: usize, w: u8) -> bool
     requires { ⌜ Counted (tables (now lengths) (now places) (now body)) k × (k + 1 < 2 ^ 33) × OffsetWidth w ⌝ }
-    ensures { λ r. ⌜ r ≡ listViewRule (tables (now (lengths .entry)) (now (places .entry)) (now (body .entry))) k w ⌝ }
+    ensures { λ r. ⌜ r ≡ listViewRule (tables (was lengths) (was places) (was body)) k w ⌝ }
 {
     if w == 4 {
         return nodes::list_view_rule_i32(lengths, places, body, k);
@@ -59,7 +60,7 @@ fn list_view_ok(lengths: &[u64], places: &[u64], body: &[u8], k: usize, w: u8) -
 // The rule of a list node with offsets of w bytes.
 fn list_ok(lengths: &[u64], places: &[u64], body: &[u8], k: usize, w: u8) -> bool
     requires { ⌜ Counted (tables (now lengths) (now places) (now body)) k × (k + 1 < 2 ^ 33) × OffsetWidth w ⌝ }
-    ensures { λ r. ⌜ r ≡ listRule (tables (now (lengths .entry)) (now (places .entry)) (now (body .entry))) k w ⌝ }
+    ensures { λ r. ⌜ r ≡ listRule (tables (was lengths) (was places) (was body)) k w ⌝ }
 {
     if w == 4 {
         return nodes::list_rule_i32(lengths, places, body, k);
@@ -70,7 +71,7 @@ fn list_ok(lengths: &[u64], places: &[u64], body: &[u8], k: usize, w: u8) -> boo
 // The rule of a run-end node with run ends of w bytes.
 fn run_end_ok(lengths: &[u64], places: &[u64], body: &[u8], k: usize, w: u8) -> bool
     requires { ⌜ Counted (tables (now lengths) (now places) (now body)) k × Counted (tables (now lengths) (now places) (now body)) (k + 1) × (k + 2 < 2 ^ 33) × RunWidth w ⌝ }
-    ensures { λ r. ⌜ r ≡ runEndRule (tables (now (lengths .entry)) (now (places .entry)) (now (body .entry))) k w ⌝ }
+    ensures { λ r. ⌜ r ≡ runEndRule (tables (was lengths) (was places) (was body)) k w ⌝ }
 {
     if w == 2 {
         return nodes::run_end_rule_i16(lengths, places, body, k);
@@ -91,7 +92,7 @@ fn field_lengths(
     m: usize,
 ) -> [u64; 16]
     requires { ⌜ (first < 2 ^ 32) × (n ≤ 32) × (i < n) × (m ≤ 16) ⌝ }
-    ensures { λ r. ⌜ ((j : ℕ) → j < m → getD r j 0 ≡ lengthOf (tables (now (lengths .entry)) [] []) (first + childAt (now (schema .entry)) first n i j)) ⌝ }
+    ensures { λ r. ⌜ ((j : ℕ) → j < m → getD r j 0 ≡ lengthOf (tables (was lengths) [] []) (first + childAt (was schema) first n i j)) ⌝ }
 {
     let mut lens = [0u64; 16];
     let mut node = i + 1;
@@ -116,8 +117,8 @@ fn union_ok(
     i: usize,
     sparse: bool,
 ) -> bool
-    requires { ⌜ Ready (now formats) (now schema) (tables (now lengths) (now places) (now body)) first n × (i < n) × (isUnion (codeOf (now formats) (now schema) first i) ≡ true) × (sparse ≡ isSparse (codeOf (now formats) (now schema) first i)) ⌝ }
-    ensures { λ r. ⌜ ((buffers : List ℕ) → r ≡ nodeRule (treeOf (now (formats .entry)) (now (schema .entry)) first n) (tablesFrom (tablesOf (now (lengths .entry)) (now (places .entry)) buffers (now (body .entry))) first) i) ⌝ }
+    requires { let c = codeOf (now formats) (now schema) first i in ⌜ Ready (now formats) (now schema) (tables (now lengths) (now places) (now body)) first n × (i < n) × (isUnion c ≡ true) × (sparse ≡ isSparse c) ⌝ }
+    ensures { λ r. ⌜ ((buffers : List ℕ) → r ≡ nodeRule (treeOf (was formats) (was schema) first n) (tablesFrom (tablesOf (was lengths) (was places) buffers (was body)) first) i) ⌝ }
 {
     let at = schema::get(schema, first + i, 0) as usize;
     let len = schema::get(schema, first + i, 1) as usize;
@@ -147,7 +148,7 @@ fn node_ok(
     i: usize,
 ) -> bool
     requires { ⌜ Ready (now formats) (now schema) (tablesOf (now lengths) (now places) (now buffers) (now body)) first n × (i < n) ⌝ }
-    ensures { λ r. ⌜ r ≡ nodeRule (treeOf (now (formats .entry)) (now (schema .entry)) first n) (tablesFrom (tablesOf (now (lengths .entry)) (now (places .entry)) (now (buffers .entry)) (now (body .entry))) first) i ⌝ }
+    ensures { λ r. ⌜ r ≡ nodeRule (treeOf (was formats) (was schema) first n) (tablesFrom (tablesOf (was lengths) (was places) (was buffers) (was body)) first) i ⌝ }
 {
     let k = first + i;
     let code = schema::code_of(formats, schema, first, i);
@@ -197,7 +198,7 @@ pub fn source_ok(
     n: usize,
 ) -> bool
     requires { ⌜ Ready (now formats) (now schema) (tablesOf (now lengths) (now places) (now buffers) (now body)) first n ⌝ }
-    ensures { λ r. ⌜ r ≡ sourceRule (treeOf (now (formats .entry)) (now (schema .entry)) first n) (tablesFrom (tablesOf (now (lengths .entry)) (now (places .entry)) (now (buffers .entry)) (now (body .entry))) first) ⌝ }
+    ensures { λ r. ⌜ r ≡ sourceRule (treeOf (was formats) (was schema) first n) (tablesFrom (tablesOf (was lengths) (was places) (was buffers) (was body)) first) ⌝ }
 {
     let mut i = 0;
     while i < n {

@@ -4,11 +4,11 @@ ghost use mathlib.Core.Path.{_≡_};
 ghost use mathlib.Core.Bool.{true};
 ghost use mathlib.Core.List.{[]};
 ghost use Prim.Native.Nat.{_+_, _*_, _≤_, _<_, _^_};
-ghost use lib.ListN.{length, getD};
-ghost use lib.Dec.{leb};
+ghost use lib.ListN.{length};
+ghost use Rattle.clauses.specs.Slices.{was};
 ghost use Rattle.columnar.specs.Types.{Number, width};
-ghost use Rattle.array_data.specs.Tables.{part, lengthOf, offsetOf, place, held, inBody, validIn};
-ghost use Rattle.array_data.specs.Rules.{oneIn, twoIn, fixedRule, stringRule, listViewRule, listRule, runEndRule};
+ghost use Rattle.array_data.specs.Tables.{place, held};
+ghost use Rattle.array_data.specs.Rules.{fixedRule, stringRule, listViewRule, listRule, runEndRule};
 ghost use Rattle.array_data.specs.lent_tables.Lent.{tables, Counted, maskOf};
 ghost use Rattle.source_rules.specs.nodes.Rows.{stringRows, viewsRows, startIn, validRows, runsValid, endsReach};
 use array_data::lent_tables;
@@ -16,7 +16,7 @@ use array_data::lent_tables;
 // The rule of a node of numbers of w bytes.
 pub fn fixed_rule(lengths: &[u64], places: &[u64], body: &[u8], k: usize, w: u8) -> bool
     requires { ⌜ Counted (tables (now lengths) (now places) (now body)) k ⌝ }
-    ensures { λ r. ⌜ ((n : Number) → width n ≡ w → r ≡ fixedRule (tables (now (lengths .entry)) (now (places .entry)) (now (body .entry))) k n) ⌝ }
+    ensures { λ r. ⌜ ((n : Number) → width n ≡ w → r ≡ fixedRule (tables (was lengths) (was places) (was body)) k n) ⌝ }
 {
     if !lent_tables::one_in(lengths, places, body, k) {
         return false;
@@ -34,7 +34,7 @@ pub fn fixed_rule(lengths: &[u64], places: &[u64], body: &[u8], k: usize, w: u8)
 // The rows of a byte string or list whose offsets of 4 bytes are the range of `size` bytes from `start` on, over `most` bytes of data or rows.
 fn strings_i32(body: &[u8], start: u64, size: u64, off: u64, len: u64, most: u64) -> bool
     requires { ⌜ (start + size ≤ length (now body)) × (off + len < 2 ^ 63) ⌝ }
-    ensures { λ r. ⌜ r ≡ stringRows 4 (now (body .entry)) start size off len most ⌝ }
+    ensures { λ r. ⌜ r ≡ stringRows 4 (was body) start size off len most ⌝ }
 {
     if size == 0 {
         return len == 0;
@@ -53,7 +53,7 @@ fn strings_i32(body: &[u8], start: u64, size: u64, off: u64, len: u64, most: u64
 // The rule of a node of byte strings with offsets of 4 bytes.
 pub fn string_rule_i32(lengths: &[u64], places: &[u64], body: &[u8], k: usize) -> bool
     requires { ⌜ Counted (tables (now lengths) (now places) (now body)) k ⌝ }
-    ensures { λ r. ⌜ r ≡ stringRule (tables (now (lengths .entry)) (now (places .entry)) (now (body .entry))) k 4 ⌝ }
+    ensures { λ r. ⌜ r ≡ stringRule (tables (was lengths) (was places) (was body)) k 4 ⌝ }
 {
     if !lent_tables::two_in(lengths, places, body, k) {
         return false;
@@ -72,7 +72,7 @@ pub fn string_rule_i32(lengths: &[u64], places: &[u64], body: &[u8], k: usize) -
 // The rows of a byte string or list whose offsets of 8 bytes are the range of `size` bytes from `start` on, over `most` bytes of data or rows.
 fn strings_i64(body: &[u8], start: u64, size: u64, off: u64, len: u64, most: u64) -> bool
     requires { ⌜ (start + size ≤ length (now body)) × (off + len < 2 ^ 63) ⌝ }
-    ensures { λ r. ⌜ r ≡ stringRows 8 (now (body .entry)) start size off len most ⌝ }
+    ensures { λ r. ⌜ r ≡ stringRows 8 (was body) start size off len most ⌝ }
 {
     if size == 0 {
         return len == 0;
@@ -91,7 +91,7 @@ fn strings_i64(body: &[u8], start: u64, size: u64, off: u64, len: u64, most: u64
 // The rule of a node of byte strings with offsets of 8 bytes.
 pub fn string_rule_i64(lengths: &[u64], places: &[u64], body: &[u8], k: usize) -> bool
     requires { ⌜ Counted (tables (now lengths) (now places) (now body)) k ⌝ }
-    ensures { λ r. ⌜ r ≡ stringRule (tables (now (lengths .entry)) (now (places .entry)) (now (body .entry))) k 8 ⌝ }
+    ensures { λ r. ⌜ r ≡ stringRule (tables (was lengths) (was places) (was body)) k 8 ⌝ }
 {
     if !lent_tables::two_in(lengths, places, body, k) {
         return false;
@@ -119,7 +119,7 @@ fn views_i32(
     child: u64,
 ) -> bool
     requires { ⌜ (start + size ≤ length (now body)) × (begin + room ≤ length (now body)) × (off + len < 2 ^ 63) ⌝ }
-    ensures { λ r. ⌜ r ≡ viewsRows 4 (now (body .entry)) start size begin room off len child ⌝ }
+    ensures { λ r. ⌜ r ≡ viewsRows 4 (was body) start size begin room off len child ⌝ }
 {
     if !lent_tables::rows_fit(off + len, 4, size) {
         return false;
@@ -135,7 +135,7 @@ fn views_i32(
 // The rule of a list-view node with offsets and sizes of 4 bytes; its child is the next node.
 pub fn list_view_rule_i32(lengths: &[u64], places: &[u64], body: &[u8], k: usize) -> bool
     requires { ⌜ Counted (tables (now lengths) (now places) (now body)) k × (k + 1 < 2 ^ 33) ⌝ }
-    ensures { λ r. ⌜ r ≡ listViewRule (tables (now (lengths .entry)) (now (places .entry)) (now (body .entry))) k 4 ⌝ }
+    ensures { λ r. ⌜ r ≡ listViewRule (tables (was lengths) (was places) (was body)) k 4 ⌝ }
 {
     if !lent_tables::two_in(lengths, places, body, k) {
         return false;
@@ -165,7 +165,7 @@ fn views_i64(
     child: u64,
 ) -> bool
     requires { ⌜ (start + size ≤ length (now body)) × (begin + room ≤ length (now body)) × (off + len < 2 ^ 63) ⌝ }
-    ensures { λ r. ⌜ r ≡ viewsRows 8 (now (body .entry)) start size begin room off len child ⌝ }
+    ensures { λ r. ⌜ r ≡ viewsRows 8 (was body) start size begin room off len child ⌝ }
 {
     if !lent_tables::rows_fit(off + len, 8, size) {
         return false;
@@ -181,7 +181,7 @@ fn views_i64(
 // The rule of a list-view node with offsets and sizes of 8 bytes; its child is the next node.
 pub fn list_view_rule_i64(lengths: &[u64], places: &[u64], body: &[u8], k: usize) -> bool
     requires { ⌜ Counted (tables (now lengths) (now places) (now body)) k × (k + 1 < 2 ^ 33) ⌝ }
-    ensures { λ r. ⌜ r ≡ listViewRule (tables (now (lengths .entry)) (now (places .entry)) (now (body .entry))) k 8 ⌝ }
+    ensures { λ r. ⌜ r ≡ listViewRule (tables (was lengths) (was places) (was body)) k 8 ⌝ }
 {
     if !lent_tables::two_in(lengths, places, body, k) {
         return false;
@@ -202,7 +202,7 @@ pub fn list_view_rule_i64(lengths: &[u64], places: &[u64], body: &[u8], k: usize
 // The rule of a list node with offsets of 4 bytes; its child is the next node.
 pub fn list_rule_i32(lengths: &[u64], places: &[u64], body: &[u8], k: usize) -> bool
     requires { ⌜ Counted (tables (now lengths) (now places) (now body)) k × (k + 1 < 2 ^ 33) ⌝ }
-    ensures { λ r. ⌜ r ≡ listRule (tables (now (lengths .entry)) (now (places .entry)) (now (body .entry))) k 4 ⌝ }
+    ensures { λ r. ⌜ r ≡ listRule (tables (was lengths) (was places) (was body)) k 4 ⌝ }
 {
     if !lent_tables::one_in(lengths, places, body, k) {
         return false;
@@ -221,7 +221,7 @@ pub fn list_rule_i32(lengths: &[u64], places: &[u64], body: &[u8], k: usize) -> 
 // The rule of a list node with offsets of 8 bytes; its child is the next node.
 pub fn list_rule_i64(lengths: &[u64], places: &[u64], body: &[u8], k: usize) -> bool
     requires { ⌜ Counted (tables (now lengths) (now places) (now body)) k × (k + 1 < 2 ^ 33) ⌝ }
-    ensures { λ r. ⌜ r ≡ listRule (tables (now (lengths .entry)) (now (places .entry)) (now (body .entry))) k 8 ⌝ }
+    ensures { λ r. ⌜ r ≡ listRule (tables (was lengths) (was places) (was body)) k 8 ⌝ }
 {
     if !lent_tables::one_in(lengths, places, body, k) {
         return false;
@@ -239,7 +239,7 @@ pub fn list_rule_i64(lengths: &[u64], places: &[u64], body: &[u8], k: usize) -> 
 
 // Where a range of the body begins, or the body's end where the range begins past it.
 fn part_start(body: &[u8], at: u64) -> usize
-    ensures { λ r. ⌜ r ≡ startIn (now (body .entry)) at ⌝ }
+    ensures { λ r. ⌜ r ≡ startIn (was body) at ⌝ }
 {
     let start = at as usize;
     if body.len() < start {
@@ -251,7 +251,7 @@ fn part_start(body: &[u8], at: u64) -> usize
 // Whether no bit of node k's rows is zero, where its validity has a bit for each slot.
 fn all_valid(lengths: &[u64], places: &[u64], body: &[u8], k: usize) -> bool
     requires { ⌜ Counted (tables (now lengths) (now places) (now body)) k × (maskOf (tables (now lengths) (now places) (now body)) k true ≡ true) ⌝ }
-    ensures { λ r. ⌜ r ≡ validRows (tables (now (lengths .entry)) (now (places .entry)) (now (body .entry))) k ⌝ }
+    ensures { λ r. ⌜ r ≡ validRows (tables (was lengths) (was places) (was body)) k ⌝ }
 {
     if lent_tables::place(places, k, 0) == 0 {
         return true;
@@ -268,7 +268,7 @@ fn all_valid(lengths: &[u64], places: &[u64], body: &[u8], k: usize) -> bool
 // Whether node k has no validity, and the run ends behind it have a bit for each slot and no null.
 fn runs_valid(lengths: &[u64], places: &[u64], body: &[u8], k: usize) -> bool
     requires { ⌜ (k < 2 ^ 33) × Counted (tables (now lengths) (now places) (now body)) (k + 1) ⌝ }
-    ensures { λ r. ⌜ r ≡ runsValid (tables (now (lengths .entry)) (now (places .entry)) (now (body .entry))) k (k + 1) ⌝ }
+    ensures { λ r. ⌜ r ≡ runsValid (tables (was lengths) (was places) (was body)) k (k + 1) ⌝ }
 {
     if !lent_tables::held(lengths, places, k) {
         return false;
@@ -285,7 +285,7 @@ fn runs_valid(lengths: &[u64], places: &[u64], body: &[u8], k: usize) -> bool
 // Run ends of 2 bytes in the range of `size` bytes from `start` on: they fit, rise strictly from at least 1, and the last is at least `reach`.
 fn ends_i16(body: &[u8], start: usize, size: u64, off: u64, len: u64, reach: u64) -> bool
     requires { ⌜ (start + size ≤ length (now body)) × (off + len < 2 ^ 63) ⌝ }
-    ensures { λ r. ⌜ r ≡ endsReach 2 (now (body .entry)) start size off len reach ⌝ }
+    ensures { λ r. ⌜ r ≡ endsReach 2 (was body) start size off len reach ⌝ }
 {
     if !lent_tables::rows_fit(off + len, 2, size) {
         return false;
@@ -302,7 +302,7 @@ fn ends_i16(body: &[u8], start: usize, size: u64, off: u64, len: u64, reach: u64
 // The rule of a run-end node with run ends of 2 bytes: the run ends are the next node, the values the one after.
 pub fn run_end_rule_i16(lengths: &[u64], places: &[u64], body: &[u8], k: usize) -> bool
     requires { ⌜ Counted (tables (now lengths) (now places) (now body)) k × Counted (tables (now lengths) (now places) (now body)) (k + 1) × (k + 2 < 2 ^ 33) ⌝ }
-    ensures { λ r. ⌜ r ≡ runEndRule (tables (now (lengths .entry)) (now (places .entry)) (now (body .entry))) k 2 ⌝ }
+    ensures { λ r. ⌜ r ≡ runEndRule (tables (was lengths) (was places) (was body)) k 2 ⌝ }
 {
     if !runs_valid(lengths, places, body, k) {
         return false;
@@ -323,7 +323,7 @@ pub fn run_end_rule_i16(lengths: &[u64], places: &[u64], body: &[u8], k: usize) 
 // Run ends of 4 bytes in the range of `size` bytes from `start` on: they fit, rise strictly from at least 1, and the last is at least `reach`.
 fn ends_i32(body: &[u8], start: usize, size: u64, off: u64, len: u64, reach: u64) -> bool
     requires { ⌜ (start + size ≤ length (now body)) × (off + len < 2 ^ 63) ⌝ }
-    ensures { λ r. ⌜ r ≡ endsReach 4 (now (body .entry)) start size off len reach ⌝ }
+    ensures { λ r. ⌜ r ≡ endsReach 4 (was body) start size off len reach ⌝ }
 {
     if !lent_tables::rows_fit(off + len, 4, size) {
         return false;
@@ -340,7 +340,7 @@ fn ends_i32(body: &[u8], start: usize, size: u64, off: u64, len: u64, reach: u64
 // The rule of a run-end node with run ends of 4 bytes: the run ends are the next node, the values the one after.
 pub fn run_end_rule_i32(lengths: &[u64], places: &[u64], body: &[u8], k: usize) -> bool
     requires { ⌜ Counted (tables (now lengths) (now places) (now body)) k × Counted (tables (now lengths) (now places) (now body)) (k + 1) × (k + 2 < 2 ^ 33) ⌝ }
-    ensures { λ r. ⌜ r ≡ runEndRule (tables (now (lengths .entry)) (now (places .entry)) (now (body .entry))) k 4 ⌝ }
+    ensures { λ r. ⌜ r ≡ runEndRule (tables (was lengths) (was places) (was body)) k 4 ⌝ }
 {
     if !runs_valid(lengths, places, body, k) {
         return false;
@@ -361,7 +361,7 @@ pub fn run_end_rule_i32(lengths: &[u64], places: &[u64], body: &[u8], k: usize) 
 // Run ends of 8 bytes in the range of `size` bytes from `start` on: they fit, rise strictly from at least 1, and the last is at least `reach`.
 fn ends_i64(body: &[u8], start: usize, size: u64, off: u64, len: u64, reach: u64) -> bool
     requires { ⌜ (start + size ≤ length (now body)) × (off + len < 2 ^ 63) ⌝ }
-    ensures { λ r. ⌜ r ≡ endsReach 8 (now (body .entry)) start size off len reach ⌝ }
+    ensures { λ r. ⌜ r ≡ endsReach 8 (was body) start size off len reach ⌝ }
 {
     if !lent_tables::rows_fit(off + len, 8, size) {
         return false;
@@ -378,7 +378,7 @@ fn ends_i64(body: &[u8], start: usize, size: u64, off: u64, len: u64, reach: u64
 // The rule of a run-end node with run ends of 8 bytes: the run ends are the next node, the values the one after.
 pub fn run_end_rule_i64(lengths: &[u64], places: &[u64], body: &[u8], k: usize) -> bool
     requires { ⌜ Counted (tables (now lengths) (now places) (now body)) k × Counted (tables (now lengths) (now places) (now body)) (k + 1) × (k + 2 < 2 ^ 33) ⌝ }
-    ensures { λ r. ⌜ r ≡ runEndRule (tables (now (lengths .entry)) (now (places .entry)) (now (body .entry))) k 8 ⌝ }
+    ensures { λ r. ⌜ r ≡ runEndRule (tables (was lengths) (was places) (was body)) k 8 ⌝ }
 {
     if !runs_valid(lengths, places, body, k) {
         return false;

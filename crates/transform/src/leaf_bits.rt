@@ -4,10 +4,11 @@ ghost use mathlib.Core.List.{List, []};
 ghost use mathlib.Core.Bool.{true};
 ghost use Prim.Native.Nat.{ℕ, _+_, _*_, _<_, _^_};
 ghost use lib.ListN.{length};
+ghost use Rattle.clauses.specs.Slices.{was};
 ghost use Rattle.walk.specs.State.{keepsOf};
-ghost use Rattle.walk.specs.Log.{Did};
 ghost use Rattle.walk.specs.Leaves.{copyMask};
 ghost use Rattle.leaf_walk.specs.Join.{join};
+ghost use Rattle.leaf_walk.specs.Walks.{Walks};
 ghost use Rattle.transform.specs.leaf_rows.Leaf.{bitsIn};
 use crate::leaf_counters;
 use array_data::lent_tables;
@@ -24,7 +25,7 @@ pub fn bits_in(
     n: u64,
 ) -> bool
     requires { ⌜ (first < 2 ^ 32) × (i < 32) ⌝ }
-    ensures { λ r. ⌜ ((parts lengths : List ℕ) (source : ℕ) → r ≡ bitsIn (join (now (plan .entry)) parts lengths (now (places .entry)) (now (body .entry)) first source) i slot n) ⌝ }
+    ensures { λ r. ⌜ ((parts lengths : List ℕ) (source : ℕ) → r ≡ bitsIn (join (was plan) parts lengths (was places) (was body) first source) i slot n) ⌝ }
 {
     if plan_words::keeps_of(plan, i) == 0 {
         return true;
@@ -51,7 +52,7 @@ pub fn put_kept_bits(
 )
     requires { ⌜ (length (now counters) ≡ 96) × (first < 2 ^ 32) × (i < 32) × (slot + n < 2 ^ 63) × (bitsIn (join (now plan) [] [] (now places) (now body) first 0) i slot n ≡ true) ⌝ }
     requires { ⌜ (keepsOf (now plan) i ≡ 0 → ⊥) ⌝ }
-    ensures { λ _. ⌜ ((lengths : List ℕ) (source : ℕ) → Did (now (plan .entry)) (now (parts .entry)) true (copyMask (join (now (plan .entry)) (now (parts .entry)) lengths (now (places .entry)) (now (body .entry)) first source) i slot n (now (counters .entry))) (now (room .entry)) 0 (now (counters .exit)) (now (room .exit))) ⌝ }
+    ensures { λ _. ⌜ ((lengths : List ℕ) (source : ℕ) → Walks plan parts true (copyMask (join (was plan) (was parts) lengths (was places) (was body) first source) i slot n) counters room 0) ⌝ }
 {
     let p = lent_tables::at_u64(counters, 3 * i);
     if lent_tables::place(places, first + i, 0) == 0 {
@@ -88,7 +89,7 @@ pub fn put_bits(
     n: u64,
 )
     requires { ⌜ (length (now counters) ≡ 96) × (first < 2 ^ 32) × (i < 32) × (slot + n < 2 ^ 63) × (bitsIn (join (now plan) [] [] (now places) (now body) first 0) i slot n ≡ true) ⌝ }
-    ensures { λ _. ⌜ ((lengths : List ℕ) (source : ℕ) → Did (now (plan .entry)) (now (parts .entry)) true (copyMask (join (now (plan .entry)) (now (parts .entry)) lengths (now (places .entry)) (now (body .entry)) first source) i slot n (now (counters .entry))) (now (room .entry)) 0 (now (counters .exit)) (now (room .exit))) ⌝ }
+    ensures { λ _. ⌜ ((lengths : List ℕ) (source : ℕ) → Walks plan parts true (copyMask (join (was plan) (was parts) lengths (was places) (was body) first source) i slot n) counters room 0) ⌝ }
 {
     if plan_words::keeps_of(plan, i) == 0 {
         return;

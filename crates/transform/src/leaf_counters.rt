@@ -3,6 +3,7 @@ ghost use mathlib.Core.Path.{_≡_};
 ghost use mathlib.Core.Bool.{cond};
 ghost use Prim.Native.Nat.{_<_};
 ghost use lib.ListN.{length, getD, set};
+ghost use Rattle.clauses.specs.Slices.{was, left};
 ghost use Rattle.walk.specs.State.{grown, addRows, setBytes};
 ghost use Rattle.plan.specs.parts.Parts.{partsWithin, partsHold};
 use plan::grounds;
@@ -11,7 +12,7 @@ use walk::plan_words;
 // A counter n higher; it stays at the largest number.
 pub fn add_to(counters: &mut [u64], k: usize, n: u64)
     requires { ⌜ k < length (now counters) ⌝ }
-    ensures { λ _. ⌜ now (counters .exit) ≡ set (now (counters .entry)) k (grown (getD (now (counters .entry)) k 0) n) ⌝ }
+    ensures { λ _. ⌜ left counters ≡ set (was counters) k (grown (getD (was counters) k 0) n) ⌝ }
 {
     counters[k] = plan_words::grow(counters[k], n);
 }
@@ -27,8 +28,8 @@ pub fn room_ground(
     b: u64,
 ) -> u8
     requires { ⌜ (length (now counters) ≡ 96) × (i < 32) ⌝ }
-    ensures { λ r. ⌜ r ≡ cond (partsWithin (now (plan .entry)) (now (parts .entry)) m) (cond (partsHold (now (plan .entry)) (setBytes i b (addRows i n (now (counters .entry)))) (now (parts .entry))) 0 13) 14 ⌝ }
-    ensures { λ _. ⌜ now (counters .exit) ≡ now (counters .entry) ⌝ }
+    ensures { λ r. ⌜ r ≡ cond (partsWithin (was plan) (was parts) m) (cond (partsHold (was plan) (setBytes i b (addRows i n (was counters))) (was parts)) 0 13) 14 ⌝ }
+    ensures { λ _. ⌜ left counters ≡ was counters ⌝ }
 {
     let rows = counters[3 * i];
     let old = counters[3 * i + 2];

@@ -4,13 +4,13 @@ ghost use mathlib.Core.List.{List, []};
 ghost use mathlib.Core.Bool.{true};
 ghost use Prim.Native.Nat.{ℕ, _<_, _≤_};
 ghost use lib.ListN.{length};
+ghost use Rattle.clauses.specs.Slices.{was, left};
 ghost use Rattle.walk.specs.State.{codeOf};
 ghost use Rattle.walk.specs.Log.{Did};
 ghost use Rattle.walk.specs.Leaves.{nullMask};
 ghost use Rattle.walk.specs.Nulls.{NullWalk, nullData, nullWalk};
-ghost use Rattle.leaf_walk.specs.Join.{join};
-ghost use Rattle.refinement.specs.orders.Order.{settled};
-ghost use Rattle.transform.specs.Answer.{lent, Answers};
+ghost use Rattle.leaf_walk.specs.Walks.{nullJoin, Walks};
+ghost use Rattle.transform.specs.Answer.{lent, Settles};
 use crate::leaf_counters;
 use array_data::lent_tables;
 use walk::plan_words;
@@ -25,7 +25,7 @@ fn put_null_entries(
     n: u64,
 )
     requires { ⌜ (i < 32) × (1 ≤ codeOf (now plan) i) × (codeOf (now plan) i < 17) ⌝ }
-    ensures { λ _. ⌜ ((child : NullWalk) → Did (now (plan .entry)) (now (parts .entry)) true (nullData (join (now (plan .entry)) (now (parts .entry)) [] [] [] 0 0) child (codeOf (now (plan .entry)) i) i n (now (counters .entry))) (now (room .entry)) 0 (now (counters .entry)) (now (room .exit))) ⌝ }
+    ensures { λ _. ⌜ ((child : NullWalk) → Did (was plan) (was parts) true (nullData (nullJoin plan parts) child (codeOf (was plan) i) i n (was counters)) (was room) 0 (was counters) (left room)) ⌝ }
 {
     let code = plan_words::code_of(plan, i);
     let w = plan::parts::entry_size(code) as u64;
@@ -59,7 +59,7 @@ pub fn put_null_mask(
     n: u64,
 )
     requires { ⌜ (length (now counters) ≡ 96) × (i < 32) ⌝ }
-    ensures { λ _. ⌜ Did (now (plan .entry)) (now (parts .entry)) true (nullMask (join (now (plan .entry)) (now (parts .entry)) [] [] [] 0 0) i n (now (counters .entry))) (now (room .entry)) 0 (now (counters .exit)) (now (room .exit)) ⌝ }
+    ensures { λ _. ⌜ Walks plan parts true (nullMask (nullJoin plan parts) i n) counters room 0 ⌝ }
 {
     if plan_words::keeps_of(plan, i) == 0 {
         return;
@@ -79,7 +79,7 @@ fn put_nulls(
     n: u64,
 ) -> u8
     requires { ⌜ (length (now counters) ≡ 96) × (n ≡ 0 → ⊥) × (i < 32) × (1 ≤ codeOf (now plan) i) × (codeOf (now plan) i < 17) ⌝ }
-    ensures { λ r. ⌜ ((sources lengths places body : List ℕ) → Answers (settled (lent (now (plan .entry)) (now (parts .entry)) sources lengths places body) (now (counters .entry)) (now (room .entry)) (nullWalk (join (now (plan .entry)) (now (parts .entry)) [] [] [] 0 0) 8 i n (now (counters .entry)))) r (now (counters .exit)) (now (room .exit))) ⌝ }
+    ensures { λ r. ⌜ ((sources lengths places body : List ℕ) → Settles (lent (was plan) (was parts) sources lengths places body) (nullWalk (nullJoin plan parts) 8 i n) counters room r) ⌝ }
 {
     let b = lent_tables::at_u64(counters, 3 * i + 2);
     let g = leaf_counters::room_ground(plan, parts, counters, room.len(), i, n, b);
@@ -101,7 +101,7 @@ pub fn add_leaf_nulls(
     n: u64,
 ) -> u8
     requires { ⌜ (length (now counters) ≡ 96) × (n ≡ 0 → ⊥) × (1 ≤ codeOf (now plan) 0) × (codeOf (now plan) 0 < 17) ⌝ }
-    ensures { λ r. ⌜ ((sources lengths places body : List ℕ) → Answers (settled (lent (now (plan .entry)) (now (parts .entry)) sources lengths places body) (now (counters .entry)) (now (room .entry)) (nullWalk (join (now (plan .entry)) (now (parts .entry)) [] [] [] 0 0) 8 0 n (now (counters .entry)))) r (now (counters .exit)) (now (room .exit))) ⌝ }
+    ensures { λ r. ⌜ ((sources lengths places body : List ℕ) → Settles (lent (was plan) (was parts) sources lengths places body) (nullWalk (nullJoin plan parts) 8 0 n) counters room r) ⌝ }
 {
     put_nulls(plan, parts, counters, room, 0, n)
 }

@@ -4,6 +4,7 @@ ghost use mathlib.Core.List.{List, []};
 ghost use mathlib.Core.Bool.{true, false};
 ghost use Prim.Native.Nat.{ℕ, _+_, _*_, _-_, _<_, _≤_, _^_};
 ghost use lib.ListN.{length};
+ghost use Rattle.clauses.specs.Slices.{was, left};
 ghost use Rattle.schema.specs.formats.Code.{isString};
 ghost use Rattle.utils.specs.Extension.{extended};
 ghost use Rattle.utils.specs.declared.Extended.the-variants.{Fits};
@@ -12,9 +13,9 @@ ghost use Rattle.walk.specs.Log.{Did};
 ghost use Rattle.walk.specs.Leaves.{putString};
 ghost use Rattle.walk.specs.Copy.{Walk, copyData, copyWalk};
 ghost use Rattle.leaf_walk.specs.Join.{join};
+ghost use Rattle.leaf_walk.specs.Walks.{lentJoin, Walks};
 ghost use Rattle.plan.specs.parts.Parts.{entrySize};
-ghost use Rattle.refinement.specs.orders.Order.{settled};
-ghost use Rattle.transform.specs.Answer.{lent, Answers};
+ghost use Rattle.transform.specs.Answer.{lent, Settles};
 ghost use Rattle.transform.specs.leaf_rows.Leaf.{bitsIn};
 use crate::leaf_bits;
 use crate::leaf_counters;
@@ -43,7 +44,7 @@ fn put_entries(
     requires { ⌜ (first < 2 ^ 32) × (source < 2 ^ 32) × (i < 32) × (slot + n < 2 ^ 63) ⌝ }
     requires { ⌜ (1 ≤ codeOf (now plan) i) × (codeOf (now plan) i < 17) × (isString (codeOf (now plan) i) ≡ false) × (w ≡ entrySize (codeOf (now plan) i)) ⌝ }
     requires { ⌜ place (join [] [] [] (now places) [] first 0) i 3 + w * (slot + n) ≤ length (now body) ⌝ }
-    ensures { λ _. ⌜ ((lengths : List ℕ) (child : Walk) → Did (now (plan .entry)) (now (parts .entry)) true (copyData (join (now (plan .entry)) (now (parts .entry)) lengths (now (places .entry)) (now (body .entry)) first source) child (codeOf (now (plan .entry)) i) i slot n (now (counters .entry))) (now (room .entry)) 0 (now (counters .entry)) (now (room .exit))) ⌝ }
+    ensures { λ _. ⌜ ((lengths : List ℕ) (child : Walk) → Did (was plan) (was parts) true (copyData (join (was plan) (was parts) lengths (was places) (was body) first source) child (codeOf (was plan) i) i slot n (was counters)) (was room) 0 (was counters) (left room)) ⌝ }
 {
     let from = lent_tables::place(places, first + i, 3) + w * slot;
     let o = plan_words::scale(lent_tables::at_u64(counters, 3 * i), w);
@@ -102,7 +103,7 @@ fn copy_entries(
     requires { ⌜ (length (now counters) ≡ 96) × (first < 2 ^ 32) × (source < 2 ^ 32) × (i < 32) × (slot + n < 2 ^ 63) ⌝ }
     requires { ⌜ (1 ≤ codeOf (now plan) i) × (codeOf (now plan) i < 17) × (isString (codeOf (now plan) i) ≡ false) ⌝ }
     requires { ⌜ bitsIn (join (now plan) [] [] (now places) (now body) first 0) i slot n ≡ true ⌝ }
-    ensures { λ r. ⌜ ((sources lengths : List ℕ) (start : ℕ) → slot ≡ slotOf (join (now (plan .entry)) (now (parts .entry)) lengths (now (places .entry)) (now (body .entry)) first source) i start n → Answers (settled (lent (now (plan .entry)) (now (parts .entry)) sources lengths (now (places .entry)) (now (body .entry))) (now (counters .entry)) (now (room .entry)) (copyWalk (join (now (plan .entry)) (now (parts .entry)) lengths (now (places .entry)) (now (body .entry)) first source) 8 i start n (now (counters .entry)))) r (now (counters .exit)) (now (room .exit))) ⌝ }
+    ensures { λ r. ⌜ ((sources lengths : List ℕ) (start : ℕ) → let j = join (was plan) (was parts) lengths (was places) (was body) first source in slot ≡ slotOf j i start n → Settles (lent (was plan) (was parts) sources lengths (was places) (was body)) (copyWalk j 8 i start n) counters room r) ⌝ }
 {
     let w = plan::parts::entry_size(plan_words::code_of(plan, i)) as u64;
     if !leaf_walk::rows_in(body, lent_tables::place(places, first + i, 3), w, slot, n) {
@@ -153,7 +154,7 @@ fn put_text(
     requires { ⌜ (length (now counters) ≡ 96) × (first < 2 ^ 32) × (i < 32) × (from + w * (n + 1) ≤ length (now body)) × (bytes (now counters) i ≤ last) ⌝ }
     requires { ⌜ ((w ≡ 4 → ⊥) → w ≡ 8) ⌝ }
     requires { ⌜ place (join [] [] [] (now places) [] first 0) i 5 + lead + (last - bytes (now counters) i) ≤ length (now body) ⌝ }
-    ensures { λ _. ⌜ ((lengths : List ℕ) (source : ℕ) → Did (now (plan .entry)) (now (parts .entry)) true (putString (join (now (plan .entry)) (now (parts .entry)) lengths (now (places .entry)) (now (body .entry)) first source) i w from n last lead (now (counters .entry))) (now (room .entry)) 0 (now (counters .exit)) (now (room .exit))) ⌝ }
+    ensures { λ _. ⌜ ((lengths : List ℕ) (source : ℕ) → Walks plan parts true (putString (join (was plan) (was parts) lengths (was places) (was body) first source) i w from n last lead) counters room 0) ⌝ }
 {
     let old = lent_tables::at_u64(counters, 3 * i + 2);
     let o = plan_words::scale(plan_words::grow(lent_tables::at_u64(counters, 3 * i), 1), w);
@@ -208,7 +209,7 @@ fn write_text(
     requires { ⌜ (isString (codeOf (now plan) i) ≡ true) × (w ≡ bytesOf (now plan) i) ⌝ }
     requires { ⌜ (from ≡ place (join [] [] [] (now places) [] first 0) i 3 + w * slot) × (from + w * (n + 1) ≤ length (now body)) × (extended w (now body) from n (bytes (now counters) i) ≡ Fits last lead) ⌝ }
     requires { ⌜ bitsIn (join (now plan) [] [] (now places) (now body) first 0) i slot n ≡ true ⌝ }
-    ensures { λ r. ⌜ ((sources lengths : List ℕ) (source start : ℕ) → slot ≡ slotOf (join (now (plan .entry)) (now (parts .entry)) lengths (now (places .entry)) (now (body .entry)) first source) i start n → Answers (settled (lent (now (plan .entry)) (now (parts .entry)) sources lengths (now (places .entry)) (now (body .entry))) (now (counters .entry)) (now (room .entry)) (copyWalk (join (now (plan .entry)) (now (parts .entry)) lengths (now (places .entry)) (now (body .entry)) first source) 8 i start n (now (counters .entry)))) r (now (counters .exit)) (now (room .exit))) ⌝ }
+    ensures { λ r. ⌜ ((sources lengths : List ℕ) (source start : ℕ) → let j = join (was plan) (was parts) lengths (was places) (was body) first source in slot ≡ slotOf j i start n → Settles (lent (was plan) (was parts) sources lengths (was places) (was body)) (copyWalk j 8 i start n) counters room r) ⌝ }
 {
     let at = lent_tables::place(places, first + i, 5);
     let old = lent_tables::at_u64(counters, 3 * i + 2);
@@ -255,7 +256,7 @@ fn copy_text(
     requires { ⌜ (length (now counters) ≡ 96) × (first < 2 ^ 32) × (i < 32) × (slot + n < 2 ^ 63) × (n ≡ 0 → ⊥) ⌝ }
     requires { ⌜ isString (codeOf (now plan) i) ≡ true ⌝ }
     requires { ⌜ bitsIn (join (now plan) [] [] (now places) (now body) first 0) i slot n ≡ true ⌝ }
-    ensures { λ r. ⌜ ((sources lengths : List ℕ) (source start : ℕ) → slot ≡ slotOf (join (now (plan .entry)) (now (parts .entry)) lengths (now (places .entry)) (now (body .entry)) first source) i start n → Answers (settled (lent (now (plan .entry)) (now (parts .entry)) sources lengths (now (places .entry)) (now (body .entry))) (now (counters .entry)) (now (room .entry)) (copyWalk (join (now (plan .entry)) (now (parts .entry)) lengths (now (places .entry)) (now (body .entry)) first source) 8 i start n (now (counters .entry)))) r (now (counters .exit)) (now (room .exit))) ⌝ }
+    ensures { λ r. ⌜ ((sources lengths : List ℕ) (source start : ℕ) → let j = join (was plan) (was parts) lengths (was places) (was body) first source in slot ≡ slotOf j i start n → Settles (lent (was plan) (was parts) sources lengths (was places) (was body)) (copyWalk j 8 i start n) counters room r) ⌝ }
 {
     let w = lookups::width_at(plan, i);
     let at = lent_tables::place(places, first + i, 3);
@@ -303,7 +304,7 @@ pub fn copy_leaf_rows(
     n: u64,
 ) -> u8
     requires { ⌜ (length (now counters) ≡ 96) × (first < 2 ^ 32) × (source < 2 ^ 32) × (n ≡ 0 → ⊥) × (1 ≤ codeOf (now plan) 0) × (codeOf (now plan) 0 < 17) ⌝ }
-    ensures { λ r. ⌜ ((sources : List ℕ) → Answers (settled (lent (now (plan .entry)) (now (parts .entry)) sources (now (lengths .entry)) (now (places .entry)) (now (body .entry))) (now (counters .entry)) (now (room .entry)) (copyWalk (join (now (plan .entry)) (now (parts .entry)) (now (lengths .entry)) (now (places .entry)) (now (body .entry)) first source) 8 0 start n (now (counters .entry)))) r (now (counters .exit)) (now (room .exit))) ⌝ }
+    ensures { λ r. ⌜ ((sources : List ℕ) → Settles (lent (was plan) (was parts) sources (was lengths) (was places) (was body)) (copyWalk (lentJoin plan parts lengths places body first source) 8 0 start n) counters room r) ⌝ }
 {
     let slot = lookups::slot_of(lengths, first, 0, start, n);
     if plan_words::FAR <= slot {

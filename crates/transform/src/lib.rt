@@ -19,13 +19,14 @@ ghost use mathlib.Core.Bool.{true, _&&_};
 ghost use Prim.Native.Nat.{ℕ, _*_, _<_, _^_, min};
 ghost use lib.ListN.{length, getD};
 ghost use lib.Dec.{leb};
+ghost use Rattle.clauses.specs.Slices.{was, left};
 ghost use Rattle.walk.specs.State.{far};
 ghost use Rattle.walk.specs.Copy.{copyWalk};
 ghost use Rattle.walk.specs.Nulls.{nullWalk};
-ghost use Rattle.leaf_walk.specs.Join.{join};
+ghost use Rattle.leaf_walk.specs.Walks.{lentJoin, nullJoin};
 ghost use Rattle.refinement.specs.orders.Sound.{walkable};
-ghost use Rattle.refinement.specs.orders.Order.{settled, copyOrder, nullOrder};
-ghost use Rattle.transform.specs.Answer.{lent, Answers};
+ghost use Rattle.refinement.specs.orders.Order.{copyOrder, nullOrder};
+ghost use Rattle.transform.specs.Answer.{lent, Answers, Settles};
 ghost use Rattle.transform.specs.numbers.Plan.{oneOfNumbers, firstOfNumbers, runsOfNumbers};
 use array_data::lent_tables;
 use plan::grounds;
@@ -36,7 +37,7 @@ use walk::plan_words;
 // The counters as an array.
 pub fn load(counters: &[u64]) -> [u64; plan_words::COUNTERS]
     requires { ⌜ length (now counters) ≡ 96 ⌝ }
-    ensures { λ r. ⌜ r ≡ now (counters .entry) ⌝ }
+    ensures { λ r. ⌜ r ≡ was counters ⌝ }
 {
     let mut tally = [0u64; plan_words::COUNTERS];
     let mut i = 0;
@@ -57,7 +58,7 @@ pub fn copied(counters: [u64; plan_words::COUNTERS]) -> [u64; plan_words::COUNTE
 // The counters as the array has them.
 pub fn store(counters: &mut [u64], tally: &[u64; plan_words::COUNTERS])
     requires { ⌜ (length (now counters) ≡ 96) × (length (now tally) ≡ 96) ⌝ }
-    ensures { λ _. ⌜ now (counters .exit) ≡ now (tally .entry) ⌝ }
+    ensures { λ _. ⌜ left counters ≡ was tally ⌝ }
 {
     let mut i = 0;
     while i < plan_words::COUNTERS {
@@ -71,7 +72,7 @@ pub fn store(counters: &mut [u64], tally: &[u64; plan_words::COUNTERS])
 // Whether the rows start .. end - 1 are rows of the source whose first node is `first`.
 pub fn in_source(lengths: &[u64], first: usize, start: u64, end: u64) -> bool
     requires { ⌜ first < 2 ^ 32 ⌝ }
-    ensures { λ r. ⌜ r ≡ (leb start end && leb end (getD (now (lengths .entry)) (2 * first) 0)) ⌝ }
+    ensures { λ r. ⌜ r ≡ (leb start end && leb end (getD (was lengths) (2 * first) 0)) ⌝ }
 {
     if end < start {
         return false;
@@ -96,7 +97,7 @@ fn copy_rows(
     n: u64,
 ) -> u8
     requires { ⌜ (length (now counters) ≡ 96) × (first < 2 ^ 32) × (source < 2 ^ 32) × (walkable (now plan) (length (now room)) ≡ true) ⌝ }
-    ensures { λ r. ⌜ ((sources : List ℕ) → Answers (settled (lent (now (plan .entry)) (now (parts .entry)) sources (now (lengths .entry)) (now (places .entry)) (now (body .entry))) (now (counters .entry)) (now (room .entry)) (copyWalk (join (now (plan .entry)) (now (parts .entry)) (now (lengths .entry)) (now (places .entry)) (now (body .entry)) first source) 8 0 start n (now (counters .entry)))) r (now (counters .exit)) (now (room .exit))) ⌝ }
+    ensures { λ r. ⌜ ((sources : List ℕ) → Settles (lent (was plan) (was parts) sources (was lengths) (was places) (was body)) (copyWalk (lentJoin plan parts lengths places body first source) 8 0 start n) counters room r) ⌝ }
 {
     let nodes = plan::parts::node_count(plan);
     let mut tally = [0u64; plan_words::COUNTERS];
@@ -160,7 +161,7 @@ fn copy_nested(
     n: u64,
 ) -> u8
     requires { ⌜ (length (now counters) ≡ 96) × (first < 2 ^ 32) × (source < 2 ^ 32) × (walkable (now plan) (length (now room)) ≡ true) ⌝ }
-    ensures { λ r. ⌜ ((sources : List ℕ) → Answers (settled (lent (now (plan .entry)) (now (parts .entry)) sources (now (lengths .entry)) (now (places .entry)) (now (body .entry))) (now (counters .entry)) (now (room .entry)) (copyWalk (join (now (plan .entry)) (now (parts .entry)) (now (lengths .entry)) (now (places .entry)) (now (body .entry)) first source) 8 0 start n (now (counters .entry)))) r (now (counters .exit)) (now (room .exit))) ⌝ }
+    ensures { λ r. ⌜ ((sources : List ℕ) → Settles (lent (was plan) (was parts) sources (was lengths) (was places) (was body)) (copyWalk (lentJoin plan parts lengths places body first source) 8 0 start n) counters room r) ⌝ }
 {
     let g = stretches::copy_stretches(
         plan,
@@ -208,7 +209,7 @@ fn copy_range(
     n: u64,
 ) -> u8
     requires { ⌜ (length (now counters) ≡ 96) × (first < 2 ^ 32) × (source < 2 ^ 32) × (plain ≡ oneOfNumbers (now plan)) × (walkable (now plan) (length (now room)) ≡ true) ⌝ }
-    ensures { λ r. ⌜ ((sources : List ℕ) → Answers (settled (lent (now (plan .entry)) (now (parts .entry)) sources (now (lengths .entry)) (now (places .entry)) (now (body .entry))) (now (counters .entry)) (now (room .entry)) (copyWalk (join (now (plan .entry)) (now (parts .entry)) (now (lengths .entry)) (now (places .entry)) (now (body .entry)) first source) 8 0 start n (now (counters .entry)))) r (now (counters .exit)) (now (room .exit))) ⌝ }
+    ensures { λ r. ⌜ ((sources : List ℕ) → Settles (lent (was plan) (was parts) sources (was lengths) (was places) (was body)) (copyWalk (lentJoin plan parts lengths places body first source) 8 0 start n) counters room r) ⌝ }
 {
     if plain {
         return numbers::copy_numbers(
@@ -268,7 +269,7 @@ pub fn try_extend(
     start: u64,
     end: u64,
 ) -> u8
-    ensures { λ r. ⌜ Answers (copyOrder (lent (now (plan .entry)) (now (parts .entry)) (now (sources .entry)) (now (lengths .entry)) (now (places .entry)) (now (body .entry))) (now (counters .entry)) (now (room .entry)) source start end) r (now (counters .exit)) (now (room .exit)) ⌝ }
+    ensures { λ r. ⌜ Answers (copyOrder (lent (was plan) (was parts) (was sources) (was lengths) (was places) (was body)) (was counters) (was room) source start end) r (left counters) (left room) ⌝ }
 {
     if counters.len() != plan_words::COUNTERS {
         return 14;
@@ -315,7 +316,7 @@ pub fn at_most_far(n: u64) -> u64
 // n nulls.
 fn add_nulls(plan: &[u64], parts: &[u64], counters: &mut [u64], room: &mut [u8], n: u64) -> u8
     requires { ⌜ (length (now counters) ≡ 96) × (walkable (now plan) (length (now room)) ≡ true) ⌝ }
-    ensures { λ r. ⌜ ((sources lengths places body : List ℕ) → Answers (settled (lent (now (plan .entry)) (now (parts .entry)) sources lengths places body) (now (counters .entry)) (now (room .entry)) (nullWalk (join (now (plan .entry)) (now (parts .entry)) [] [] [] 0 0) 8 0 n (now (counters .entry)))) r (now (counters .exit)) (now (room .exit))) ⌝ }
+    ensures { λ r. ⌜ ((sources lengths places body : List ℕ) → Settles (lent (was plan) (was parts) sources lengths places body) (nullWalk (nullJoin plan parts) 8 0 n) counters room r) ⌝ }
 {
     let mut tally = load(counters);
     let g = extend::extend_nulls(plan, parts, &mut tally, room, false, 0, n, 8);
@@ -343,7 +344,7 @@ fn add_null_range(
     n: u64,
 ) -> u8
     requires { ⌜ (length (now counters) ≡ 96) × (way ≡ 1 → firstOfNumbers (now plan) ≡ true) × (way ≡ 2 → runsOfNumbers (now plan) ≡ true) × (walkable (now plan) (length (now room)) ≡ true) ⌝ }
-    ensures { λ r. ⌜ ((sources lengths places body : List ℕ) → Answers (settled (lent (now (plan .entry)) (now (parts .entry)) sources lengths places body) (now (counters .entry)) (now (room .entry)) (nullWalk (join (now (plan .entry)) (now (parts .entry)) [] [] [] 0 0) 8 0 n (now (counters .entry)))) r (now (counters .exit)) (now (room .exit))) ⌝ }
+    ensures { λ r. ⌜ ((sources lengths places body : List ℕ) → Settles (lent (was plan) (was parts) sources lengths places body) (nullWalk (nullJoin plan parts) 8 0 n) counters room r) ⌝ }
 {
     if (way == null_ways::NUMBERS) & (n != 0) {
         return number_nulls::add_number_nulls(plan, parts, counters, room, n);
@@ -365,7 +366,7 @@ pub fn try_extend_nulls(
     room: &mut [u8],
     n: u64,
 ) -> u8
-    ensures { λ r. ⌜ ((sources lengths places body : List ℕ) → Answers (nullOrder (lent (now (plan .entry)) (now (parts .entry)) sources lengths places body) (now (counters .entry)) (now (room .entry)) n) r (now (counters .exit)) (now (room .exit))) ⌝ }
+    ensures { λ r. ⌜ ((sources lengths places body : List ℕ) → Answers (nullOrder (lent (was plan) (was parts) sources lengths places body) (was counters) (was room) n) r (left counters) (left room)) ⌝ }
 {
     if counters.len() != plan_words::COUNTERS {
         return 14;

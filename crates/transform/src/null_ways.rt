@@ -2,6 +2,7 @@
 ghost use mathlib.Core.Path.{_≡_};
 ghost use mathlib.Core.Bool.{true};
 ghost use Prim.Native.Nat.{_<_};
+ghost use Rattle.clauses.specs.Slices.{was};
 ghost use Rattle.transform.specs.numbers.Plan.{keptKeys, firstOfNumbers, numbersAt, runsOfNumbers};
 use crate::numbers;
 use nested_rows::node_data;
@@ -20,7 +21,7 @@ const LAST_OF_ONE_BYTE: u8 = 2;
 
 // Whether the type is keys whose dictionary is kept, with values that are a leaf.
 fn is_kept_keys(plan: &[u64]) -> bool
-    ensures { λ r. ⌜ (r ≡ true → keptKeys (now (plan .entry)) ≡ true) ⌝ }
+    ensures { λ r. ⌜ (r ≡ true → keptKeys (was plan) ≡ true) ⌝ }
 {
     if plan::parts::node_count(plan) != 2 {
         return false;
@@ -46,7 +47,7 @@ fn is_kept_keys(plan: &[u64]) -> bool
 // Whether node i is of numbers without a dictionary.
 fn is_numbers_at(plan: &[u64], i: usize) -> bool
     requires { ⌜ i < 31 ⌝ }
-    ensures { λ r. ⌜ (r ≡ true → numbersAt (now (plan .entry)) i ≡ true) ⌝ }
+    ensures { λ r. ⌜ (r ≡ true → numbersAt (was plan) i ≡ true) ⌝ }
 {
     if plan_words::end_of(plan, i) != i + 1 {
         return false;
@@ -59,7 +60,7 @@ fn is_numbers_at(plan: &[u64], i: usize) -> bool
 
 // Whether the type is run ends over numbers.
 fn is_runs(plan: &[u64]) -> bool
-    ensures { λ r. ⌜ (r ≡ true → runsOfNumbers (now (plan .entry)) ≡ true) ⌝ }
+    ensures { λ r. ⌜ (r ≡ true → runsOfNumbers (was plan) ≡ true) ⌝ }
 {
     if plan::parts::node_count(plan) != 3 {
         return false;
@@ -84,8 +85,8 @@ fn is_runs(plan: &[u64]) -> bool
 
 // The way of a type.
 pub fn way_of(plan: &[u64]) -> u8
-    ensures { λ r. ⌜ (r ≡ 1 → firstOfNumbers (now (plan .entry)) ≡ true) ⌝ }
-    ensures { λ r. ⌜ (r ≡ 2 → runsOfNumbers (now (plan .entry)) ≡ true) ⌝ }
+    ensures { λ r. ⌜ (r ≡ 1 → firstOfNumbers (was plan) ≡ true) ⌝ }
+    ensures { λ r. ⌜ (r ≡ 2 → runsOfNumbers (was plan) ≡ true) ⌝ }
 {
     if numbers::is_numbers(plan) {
         return NUMBERS;

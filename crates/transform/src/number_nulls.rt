@@ -4,14 +4,14 @@ ghost use mathlib.Core.List.{List, []};
 ghost use mathlib.Core.Bool.{true};
 ghost use Prim.Native.Nat.{ℕ, _+_, _*_, _≤_};
 ghost use lib.ListN.{length};
+ghost use Rattle.clauses.specs.Slices.{was, left};
 ghost use Rattle.schema.specs.formats.Code.{isFixed};
 ghost use Rattle.walk.specs.State.{codeOf, rows};
 ghost use Rattle.walk.specs.Log.{Did, startOf};
 ghost use Rattle.walk.specs.Nulls.{NullWalk, nullData, nullWalk};
-ghost use Rattle.leaf_walk.specs.Join.{join};
+ghost use Rattle.leaf_walk.specs.Walks.{nullJoin};
 ghost use Rattle.plan.specs.parts.Parts.{entrySize};
-ghost use Rattle.refinement.specs.orders.Order.{settled};
-ghost use Rattle.transform.specs.Answer.{lent, Answers};
+ghost use Rattle.transform.specs.Answer.{lent, Settles};
 ghost use Rattle.transform.specs.numbers.Plan.{firstOfNumbers};
 use crate::leaf_counters;
 use crate::leaf_nulls;
@@ -22,7 +22,7 @@ use walk::plan_words;
 // The zeros of n nulls, where they lie in the room.
 fn put_zeros(plan: &[u64], parts: &[u64], counters: &[u64], room: &mut [u8], w: u64, n: u64)
     requires { ⌜ (isFixed (codeOf (now plan) 0) ≡ true) × (w ≡ entrySize (codeOf (now plan) 0)) × (startOf (now plan) (now parts) 0 1 + rows (now counters) 0 * w + w * n ≤ length (now room)) ⌝ }
-    ensures { λ _. ⌜ ((child : NullWalk) → Did (now (plan .entry)) (now (parts .entry)) true (nullData (join (now (plan .entry)) (now (parts .entry)) [] [] [] 0 0) child (codeOf (now (plan .entry)) 0) 0 n (now (counters .entry))) (now (room .entry)) 0 (now (counters .entry)) (now (room .exit))) ⌝ }
+    ensures { λ _. ⌜ ((child : NullWalk) → Did (was plan) (was parts) true (nullData (nullJoin plan parts) child (codeOf (was plan) 0) 0 n (was counters)) (was room) 0 (was counters) (left room)) ⌝ }
 {
     let start = lent_tables::at_u64(parts, 2 * plan_words::part_of(plan, 0));
     let o = plan_words::scale(lent_tables::at_u64(counters, 0), w);
@@ -38,7 +38,7 @@ pub fn add_number_nulls(
     n: u64,
 ) -> u8
     requires { ⌜ (length (now counters) ≡ 96) × (n ≡ 0 → ⊥) × (firstOfNumbers (now plan) ≡ true) ⌝ }
-    ensures { λ r. ⌜ ((sources lengths places body : List ℕ) → Answers (settled (lent (now (plan .entry)) (now (parts .entry)) sources lengths places body) (now (counters .entry)) (now (room .entry)) (nullWalk (join (now (plan .entry)) (now (parts .entry)) [] [] [] 0 0) 8 0 n (now (counters .entry)))) r (now (counters .exit)) (now (room .exit))) ⌝ }
+    ensures { λ r. ⌜ ((sources lengths places body : List ℕ) → Settles (lent (was plan) (was parts) sources lengths places body) (nullWalk (nullJoin plan parts) 8 0 n) counters room r) ⌝ }
 {
     let w = numbers::number_size(plan_words::code_of(plan, 0));
     let r = plan_words::grow(lent_tables::at_u64(counters, 0), n);

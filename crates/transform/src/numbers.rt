@@ -5,6 +5,7 @@ ghost use mathlib.Core.Bool.{true, cond, _&&_};
 ghost use Prim.Native.Nat.{ℕ, _+_, _*_, _<_, _≤_, _^_};
 ghost use lib.ListN.{length, take, drop};
 ghost use lib.Dec.{ltb};
+ghost use Rattle.clauses.specs.Slices.{was, left};
 ghost use Rattle.columnar.specs.Test.{every};
 ghost use Rattle.schema.specs.formats.Code.{isFixed};
 ghost use Rattle.walk.specs.State.{codeOf, dictionaryOf, rows, place, slotOf};
@@ -12,11 +13,11 @@ ghost use Rattle.walk.specs.Log.{Did, put, applyIf, startOf};
 ghost use Rattle.walk.specs.Leaves.{copyMask};
 ghost use Rattle.walk.specs.Copy.{Walk, copyData, copyWalk};
 ghost use Rattle.leaf_walk.specs.Join.{join};
+ghost use Rattle.leaf_walk.specs.Walks.{lentJoin, Walks};
 ghost use Rattle.plan.specs.parts.Parts.{copied, entrySize, inRoom, partWithin, partHolds, partsWithin, partsHold};
 ghost use Rattle.plan.specs.grounds.Verdict.{verdict};
 ghost use Rattle.refinement.specs.orders.Sound.{planSound, walkable};
-ghost use Rattle.refinement.specs.orders.Order.{settled};
-ghost use Rattle.transform.specs.Answer.{lent, Answers};
+ghost use Rattle.transform.specs.Answer.{lent, Settles};
 ghost use Rattle.transform.specs.leaf_rows.Leaf.{bitsIn};
 ghost use Rattle.transform.specs.numbers.Plan.{oneOfNumbers, firstOfNumbers};
 use crate::leaf_bits;
@@ -29,7 +30,7 @@ use walk::plan_words;
 
 // Whether the type is one node, of numbers without a dictionary.
 pub fn is_numbers(plan: &[u64]) -> bool
-    ensures { λ r. ⌜ r ≡ oneOfNumbers (now (plan .entry)) ⌝ }
+    ensures { λ r. ⌜ r ≡ oneOfNumbers (was plan) ⌝ }
 {
     if plan::parts::node_count(plan) != 1 {
         return false;
@@ -46,7 +47,7 @@ pub fn is_numbers(plan: &[u64]) -> bool
 // Whether an order can be walked: where the plan is known to be sound, no node is asked.
 pub fn is_walkable(plan: &[u64], m: usize, known: bool) -> bool
     requires { ⌜ (known ≡ true → planSound (now plan) ≡ true) ⌝ }
-    ensures { λ r. ⌜ r ≡ walkable (now (plan .entry)) m ⌝ }
+    ensures { λ r. ⌜ r ≡ walkable (was plan) m ⌝ }
 {
     if known {
         return m <= columns::CEILING;
@@ -78,7 +79,7 @@ pub fn number_size(code: u8) -> u64
 // Whether part p lies in the room.
 fn in_room(parts: &[u64], m: usize, p: usize) -> bool
     requires { ⌜ p < 4294967298 ⌝ }
-    ensures { λ r. ⌜ r ≡ inRoom (now (parts .entry)) m p ⌝ }
+    ensures { λ r. ⌜ r ≡ inRoom (was parts) m p ⌝ }
 {
     let start = lent_tables::at_u64(parts, 2 * p);
     let size = lent_tables::at_u64(parts, 2 * p + 1);
@@ -88,7 +89,7 @@ fn in_room(parts: &[u64], m: usize, p: usize) -> bool
 // 14 where part p is not in the table or not in the room, and else 13 where it does not hold its bytes.
 fn part_ground(parts: &[u64], m: usize, p: usize, holds: bool) -> u8
     requires { ⌜ p < 4294967298 ⌝ }
-    ensures { λ r. ⌜ r ≡ verdict (ltb (2 * p + 1) (length (now (parts .entry))) && inRoom (now (parts .entry)) m p) holds ⌝ }
+    ensures { λ r. ⌜ r ≡ verdict (ltb (2 * p + 1) (length (was parts)) && inRoom (was parts) m p) holds ⌝ }
 {
     if parts.len() <= 2 * p + 1 {
         return 14;
@@ -105,7 +106,7 @@ fn part_ground(parts: &[u64], m: usize, p: usize, holds: bool) -> u8
 // The part of r numbers of w bytes at node i.
 fn entries_ground(plan: &[u64], parts: &[u64], m: usize, i: usize, w: u64, r: u64) -> u8
     requires { ⌜ (i < 32) × (isFixed (codeOf (now plan) i) ≡ true) × (w ≡ entrySize (codeOf (now plan) i)) × (copied (now plan) i ≡ true) ⌝ }
-    ensures { λ g. ⌜ ((counters : List ℕ) → rows counters i ≡ r → g ≡ verdict (partWithin (now (plan .entry)) (now (parts .entry)) m i 1) (partHolds (now (plan .entry)) counters (now (parts .entry)) i 1)) ⌝ }
+    ensures { λ g. ⌜ ((counters : List ℕ) → rows counters i ≡ r → g ≡ verdict (partWithin (was plan) (was parts) m i 1) (partHolds (was plan) counters (was parts) i 1)) ⌝ }
 {
     let p = plan::parts::number_of(plan, i, 1);
     let size = lent_tables::at_u64(parts, 2 * p + 1);
@@ -115,7 +116,7 @@ fn entries_ground(plan: &[u64], parts: &[u64], m: usize, i: usize, w: u64, r: u6
 // The part of the validity of r rows of node i, where nulls are kept.
 fn bits_ground(plan: &[u64], parts: &[u64], m: usize, i: usize, r: u64) -> u8
     requires { ⌜ (i < 32) × (isFixed (codeOf (now plan) i) ≡ true) × (copied (now plan) i ≡ true) ⌝ }
-    ensures { λ g. ⌜ ((counters : List ℕ) → rows counters i ≡ r → g ≡ verdict (partWithin (now (plan .entry)) (now (parts .entry)) m i 0) (partHolds (now (plan .entry)) counters (now (parts .entry)) i 0)) ⌝ }
+    ensures { λ g. ⌜ ((counters : List ℕ) → rows counters i ≡ r → g ≡ verdict (partWithin (was plan) (was parts) m i 0) (partHolds (was plan) counters (was parts) i 0)) ⌝ }
 {
     if plan_words::keeps_of(plan, i) == 0 {
         return 0;
@@ -128,7 +129,7 @@ fn bits_ground(plan: &[u64], parts: &[u64], m: usize, i: usize, r: u64) -> u8
 // The parts of r rows of node i.
 pub fn node_ground(plan: &[u64], parts: &[u64], m: usize, i: usize, w: u64, r: u64) -> u8
     requires { ⌜ (i < 32) × (isFixed (codeOf (now plan) i) ≡ true) × (w ≡ entrySize (codeOf (now plan) i)) × (copied (now plan) i ≡ true) ⌝ }
-    ensures { λ g. ⌜ ((counters : List ℕ) → rows counters i ≡ r → g ≡ verdict (every (λ b. partWithin (now (plan .entry)) (now (parts .entry)) m i b) 3) (every (λ b. partHolds (now (plan .entry)) counters (now (parts .entry)) i b) 3)) ⌝ }
+    ensures { λ g. ⌜ ((counters : List ℕ) → rows counters i ≡ r → g ≡ verdict (every (λ b. partWithin (was plan) (was parts) m i b) 3) (every (λ b. partHolds (was plan) counters (was parts) i b) 3)) ⌝ }
 {
     let entries = entries_ground(plan, parts, m, i, w, r);
     let bits = bits_ground(plan, parts, m, i, r);
@@ -141,7 +142,7 @@ pub fn node_ground(plan: &[u64], parts: &[u64], m: usize, i: usize, w: u64, r: u
 // What the parts say to r rows.
 pub fn room_ground(plan: &[u64], parts: &[u64], m: usize, w: u64, r: u64) -> u8
     requires { ⌜ (firstOfNumbers (now plan) ≡ true) × (w ≡ entrySize (codeOf (now plan) 0)) ⌝ }
-    ensures { λ g. ⌜ ((counters : List ℕ) → rows counters 0 ≡ r → g ≡ cond (partsWithin (now (plan .entry)) (now (parts .entry)) m) (cond (partsHold (now (plan .entry)) counters (now (parts .entry))) 0 13) 14) ⌝ }
+    ensures { λ g. ⌜ ((counters : List ℕ) → rows counters 0 ≡ r → g ≡ cond (partsWithin (was plan) (was parts) m) (cond (partsHold (was plan) counters (was parts)) 0 13) 14) ⌝ }
 {
     node_ground(plan, parts, m, 0, w, r)
 }
@@ -162,7 +163,7 @@ fn put_validity(
     n: u64,
 )
     requires { ⌜ (length (now counters) ≡ 96) × (first < 2 ^ 32) × (i < 32) × (slot + n < 2 ^ 63) × (bitsIn (join (now plan) [] [] (now places) (now body) first 0) i slot n ≡ true) ⌝ }
-    ensures { λ _. ⌜ ((lengths : List ℕ) (source : ℕ) → Did (now (plan .entry)) (now (parts .entry)) true (copyMask (join (now (plan .entry)) (now (parts .entry)) lengths (now (places .entry)) (now (body .entry)) first source) i slot n (now (counters .entry))) (now (room .entry)) 0 (now (counters .exit)) (now (room .exit))) ⌝ }
+    ensures { λ _. ⌜ ((lengths : List ℕ) (source : ℕ) → Walks plan parts true (copyMask (join (was plan) (was parts) lengths (was places) (was body) first source) i slot n) counters room 0) ⌝ }
 {
     if plan_words::keeps_of(plan, i) == 0 {
         return;
@@ -182,7 +183,7 @@ fn put_bytes(
     n: u64,
 )
     requires { ⌜ (i < 32) × (from + n ≤ length (now body)) × (startOf (now plan) (now parts) i 1 + o + n ≤ length (now room)) ⌝ }
-    ensures { λ _. ⌜ now (room .exit) ≡ applyIf (now (plan .entry)) (now (parts .entry)) true (put i 1 o (take n (drop from (now (body .entry)))) ∷ []) (now (room .entry)) ⌝ }
+    ensures { λ _. ⌜ left room ≡ applyIf (was plan) (was parts) true (put i 1 o (take n (drop from (was body))) ∷ []) (was room) ⌝ }
 {
     let start = lent_tables::at_u64(parts, 2 * plan_words::part_of(plan, i));
     number::copy::copy_bytes(room, (start + o) as usize, body, from, n as usize);
@@ -206,7 +207,7 @@ fn put_numbers(
     requires { ⌜ (isFixed (codeOf (now plan) i) ≡ true) × (dictionaryOf (now plan) i ≡ 0) × (w ≡ entrySize (codeOf (now plan) i)) ⌝ }
     requires { ⌜ place (join [] [] [] (now places) [] first 0) i 3 + w * (slot + n) ≤ length (now body) ⌝ }
     requires { ⌜ startOf (now plan) (now parts) i 1 + rows (now counters) i * w + w * n ≤ length (now room) ⌝ }
-    ensures { λ _. ⌜ ((lengths : List ℕ) (source : ℕ) (child : Walk) → Did (now (plan .entry)) (now (parts .entry)) true (copyData (join (now (plan .entry)) (now (parts .entry)) lengths (now (places .entry)) (now (body .entry)) first source) child (codeOf (now (plan .entry)) i) i slot n (now (counters .entry))) (now (room .entry)) 0 (now (counters .entry)) (now (room .exit))) ⌝ }
+    ensures { λ _. ⌜ ((lengths : List ℕ) (source : ℕ) (child : Walk) → Did (was plan) (was parts) true (copyData (join (was plan) (was parts) lengths (was places) (was body) first source) child (codeOf (was plan) i) i slot n (was counters)) (was room) 0 (was counters) (left room)) ⌝ }
 {
     let from = lent_tables::place(places, first + i, 3) + w * slot;
     let o = plan_words::scale(lent_tables::at_u64(counters, 3 * i), w);
@@ -227,7 +228,7 @@ fn copy_slots(
 ) -> u8
     requires { ⌜ (length (now counters) ≡ 96) × (first < 2 ^ 32) × (slot + n < 2 ^ 63) × (oneOfNumbers (now plan) ≡ true) ⌝ }
     requires { ⌜ bitsIn (join (now plan) [] [] (now places) (now body) first 0) 0 slot n ≡ true ⌝ }
-    ensures { λ r. ⌜ ((sources lengths : List ℕ) (source start : ℕ) → slot ≡ slotOf (join (now (plan .entry)) (now (parts .entry)) lengths (now (places .entry)) (now (body .entry)) first source) 0 start n → Answers (settled (lent (now (plan .entry)) (now (parts .entry)) sources lengths (now (places .entry)) (now (body .entry))) (now (counters .entry)) (now (room .entry)) (copyWalk (join (now (plan .entry)) (now (parts .entry)) lengths (now (places .entry)) (now (body .entry)) first source) 8 0 start n (now (counters .entry)))) r (now (counters .exit)) (now (room .exit))) ⌝ }
+    ensures { λ r. ⌜ ((sources lengths : List ℕ) (source start : ℕ) → let j = join (was plan) (was parts) lengths (was places) (was body) first source in slot ≡ slotOf j 0 start n → Settles (lent (was plan) (was parts) sources lengths (was places) (was body)) (copyWalk j 8 0 start n) counters room r) ⌝ }
 {
     let w = number_size(plan_words::code_of(plan, 0));
     let at = lent_tables::place(places, first + 0, 3);
@@ -271,7 +272,7 @@ pub fn copy_numbers(
     n: u64,
 ) -> u8
     requires { ⌜ (length (now counters) ≡ 96) × (first < 2 ^ 32) × (oneOfNumbers (now plan) ≡ true) ⌝ }
-    ensures { λ r. ⌜ ((sources : List ℕ) (source : ℕ) → Answers (settled (lent (now (plan .entry)) (now (parts .entry)) sources (now (lengths .entry)) (now (places .entry)) (now (body .entry))) (now (counters .entry)) (now (room .entry)) (copyWalk (join (now (plan .entry)) (now (parts .entry)) (now (lengths .entry)) (now (places .entry)) (now (body .entry)) first source) 8 0 start n (now (counters .entry)))) r (now (counters .exit)) (now (room .exit))) ⌝ }
+    ensures { λ r. ⌜ ((sources : List ℕ) (source : ℕ) → Settles (lent (was plan) (was parts) sources (was lengths) (was places) (was body)) (copyWalk (lentJoin plan parts lengths places body first source) 8 0 start n) counters room r) ⌝ }
 {
     let slot = lookups::slot_of(lengths, first, 0, start, n);
     if plan_words::FAR <= slot {

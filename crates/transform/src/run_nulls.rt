@@ -5,6 +5,7 @@ ghost use mathlib.Core.Bool.{true, cond};
 ghost use Prim.Native.Nat.{ℕ, _+_};
 ghost use lib.ListN.{length};
 ghost use lib.Dec.{ltb};
+ghost use Rattle.clauses.specs.Slices.{was, left};
 ghost use Rattle.columnar.specs.Types.{half};
 ghost use Rattle.schema.specs.formats.Code.{isFixed};
 ghost use Rattle.walk.specs.State.{codeOf, bytesOf, rows, gap};
@@ -14,9 +15,9 @@ ghost use Rattle.walk.specs.Copy.{isWidth};
 ghost use Rattle.walk.specs.Nulls.{nullWalk};
 ghost use Rattle.nested_rows.specs.Numbers.{nullEnd};
 ghost use Rattle.leaf_walk.specs.Join.{join};
+ghost use Rattle.leaf_walk.specs.Walks.{nullJoin, Walks};
 ghost use Rattle.plan.specs.parts.Parts.{entrySize, partsWithin, partsHold};
-ghost use Rattle.refinement.specs.orders.Order.{settled};
-ghost use Rattle.transform.specs.Answer.{lent, Answers};
+ghost use Rattle.transform.specs.Answer.{lent, Settles};
 ghost use Rattle.transform.specs.numbers.Plan.{runsOfNumbers};
 use crate::leaf_counters;
 use crate::leaf_nulls;
@@ -27,7 +28,7 @@ use walk::plan_words;
 // What the parts say to so many run ends and values.
 fn room_ground(plan: &[u64], parts: &[u64], m: usize, w: u64, ends: u64, values: u64) -> u8
     requires { ⌜ (runsOfNumbers (now plan) ≡ true) × (w ≡ entrySize (codeOf (now plan) 1)) ⌝ }
-    ensures { λ g. ⌜ ((counters : List ℕ) → rows counters 1 ≡ ends → rows counters 2 ≡ values → g ≡ cond (partsWithin (now (plan .entry)) (now (parts .entry)) m) (cond (partsHold (now (plan .entry)) counters (now (parts .entry))) 0 13) 14) ⌝ }
+    ensures { λ g. ⌜ ((counters : List ℕ) → rows counters 1 ≡ ends → rows counters 2 ≡ values → g ≡ cond (partsWithin (was plan) (was parts) m) (cond (partsHold (was plan) counters (was parts)) 0 13) 14) ⌝ }
 {
     let runs = numbers::node_ground(plan, parts, m, 1, w, ends);
     let v = numbers::number_size(plan_words::code_of(plan, 2));
@@ -43,7 +44,7 @@ fn room_ground(plan: &[u64], parts: &[u64], m: usize, w: u64, ends: u64, values:
 // One null value.
 fn put_value(plan: &[u64], parts: &[u64], counters: &mut [u64], room: &mut [u8])
     requires { ⌜ (length (now counters) ≡ 96) × (isFixed (codeOf (now plan) 2) ≡ true) ⌝ }
-    ensures { λ _. ⌜ Did (now (plan .entry)) (now (parts .entry)) true (nullWalk (join (now (plan .entry)) (now (parts .entry)) [] [] [] 0 0) 7 2 1 (now (counters .entry))) (now (room .entry)) 0 (now (counters .exit)) (now (room .exit)) ⌝ }
+    ensures { λ _. ⌜ Walks plan parts true (nullWalk (nullJoin plan parts) 7 2 1) counters room 0 ⌝ }
 {
     let w = numbers::number_size(plan_words::code_of(plan, 2));
     let o = plan_words::scale(lent_tables::at_u64(counters, 6), w);
@@ -56,7 +57,7 @@ fn put_value(plan: &[u64], parts: &[u64], counters: &mut [u64], room: &mut [u8])
 fn put_end(plan: &[u64], parts: &[u64], counters: &mut [u64], room: &mut [u8], w: u64, n: u64)
     requires { ⌜ (length (now counters) ≡ 96) × (w ≡ bytesOf (now plan) 1) × (isWidth w ≡ true) × (gap (now counters) 0 ≡ 0) ⌝ }
     requires { ⌜ ltb (rows (now counters) 0 + n) (half w) ≡ true ⌝ }
-    ensures { λ _. ⌜ Did (now (plan .entry)) (now (parts .entry)) true (nullEnd (now (plan .entry)) 0 n (now (counters .entry))) (now (room .entry)) 0 (now (counters .exit)) (now (room .exit)) ⌝ }
+    ensures { λ _. ⌜ Walks plan parts true (nullEnd (was plan) 0 n) counters room 0 ⌝ }
 {
     let end = lent_tables::at_u64(counters, 0) + n;
     let o = plan_words::scale(lent_tables::at_u64(counters, 3), w);
@@ -68,7 +69,7 @@ fn put_end(plan: &[u64], parts: &[u64], counters: &mut [u64], room: &mut [u8], w
 // The nulls of the run-end node counted, if it keeps them.
 fn count_nulls(plan: &[u64], counters: &mut [u64], n: u64)
     requires { ⌜ length (now counters) ≡ 96 ⌝ }
-    ensures { λ _. ⌜ ((parts room : List ℕ) → Did (now (plan .entry)) parts true (countNulls (join (now (plan .entry)) parts [] [] [] 0 0) 0 n (now (counters .entry))) room 0 (now (counters .exit)) room) ⌝ }
+    ensures { λ _. ⌜ ((parts room : List ℕ) → Did (was plan) parts true (countNulls (join (was plan) parts [] [] [] 0 0) 0 n (was counters)) room 0 (left counters) room) ⌝ }
 {
     if plan_words::keeps_of(plan, 0) != 0 {
         leaf_counters::add_to(counters, 1, n);
@@ -86,7 +87,7 @@ pub fn add_run_nulls(
     n: u64,
 ) -> u8
     requires { ⌜ (length (now counters) ≡ 96) × (n ≡ 0 → ⊥) × (gap (now counters) 0 ≡ 0) × (runsOfNumbers (now plan) ≡ true) ⌝ }
-    ensures { λ r. ⌜ ((sources lengths places body : List ℕ) → Answers (settled (lent (now (plan .entry)) (now (parts .entry)) sources lengths places body) (now (counters .entry)) (now (room .entry)) (nullWalk (join (now (plan .entry)) (now (parts .entry)) [] [] [] 0 0) 8 0 n (now (counters .entry)))) r (now (counters .exit)) (now (room .exit))) ⌝ }
+    ensures { λ r. ⌜ ((sources lengths places body : List ℕ) → Settles (lent (was plan) (was parts) sources lengths places body) (nullWalk (nullJoin plan parts) 8 0 n) counters room r) ⌝ }
 {
     let w = numbers::number_size(plan_words::code_of(plan, 1));
     if !nested_rows::sum_fits(w, lent_tables::at_u64(counters, 0), n) {

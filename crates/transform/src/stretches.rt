@@ -3,10 +3,10 @@ ghost use mathlib.Core.Path.{_≡_};
 ghost use mathlib.Core.List.{List};
 ghost use Prim.Native.Nat.{ℕ, _<_, _^_};
 ghost use lib.ListN.{length};
+ghost use Rattle.clauses.specs.Slices.{was, left};
 ghost use Rattle.walk.specs.Copy.{copyWalk};
-ghost use Rattle.leaf_walk.specs.Join.{join};
-ghost use Rattle.refinement.specs.orders.Order.{settled};
-ghost use Rattle.transform.specs.Answer.{lent, Answers};
+ghost use Rattle.leaf_walk.specs.Walks.{lentJoin};
+ghost use Rattle.transform.specs.Answer.{lent, Settles};
 use batch::rise;
 use plan::grounds;
 
@@ -27,8 +27,8 @@ pub fn copy_stretches(
     n: u64,
 ) -> u8
     requires { ⌜ (length (now counters) ≡ 96) × (first < 2 ^ 32) ⌝ }
-    ensures { λ r. ⌜ (r ≡ 255 → (now (counters .exit) ≡ now (counters .entry)) × (now (room .exit) ≡ now (room .entry))) ⌝ }
-    ensures { λ r. ⌜ ((r ≡ 255 → ⊥) → (sources : List ℕ) (source : ℕ) → Answers (settled (lent (now (plan .entry)) (now (parts .entry)) sources (now (lengths .entry)) (now (places .entry)) (now (body .entry))) (now (counters .entry)) (now (room .entry)) (copyWalk (join (now (plan .entry)) (now (parts .entry)) (now (lengths .entry)) (now (places .entry)) (now (body .entry)) first source) 8 0 start n (now (counters .entry)))) r (now (counters .exit)) (now (room .exit))) ⌝ }
+    ensures { λ r. ⌜ (r ≡ 255 → (left counters ≡ was counters) × (left room ≡ was room)) ⌝ }
+    ensures { λ r. ⌜ ((r ≡ 255 → ⊥) → (sources : List ℕ) (source : ℕ) → Settles (lent (was plan) (was parts) sources (was lengths) (was places) (was body)) (copyWalk (lentJoin plan parts lengths places body first source) 8 0 start n) counters room r) ⌝ }
 {
     if !batch::batch_walk::is_stretched(plan) {
         return UNTOLD;

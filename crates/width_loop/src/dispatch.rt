@@ -3,9 +3,10 @@ ghost use mathlib.Core.Path.{_≡_};
 ghost use mathlib.Core.Bool.{false};
 ghost use mathlib.Core.List.{List};
 ghost use Prim.Native.Nat.{ℕ};
+ghost use Rattle.clauses.specs.Slices.{was, left};
 ghost use Rattle.schema.specs.formats.Code.{isFixed, isString, isView};
 ghost use Rattle.schema.specs.Tree.{codeOf};
-ghost use Rattle.walk.specs.Log.{Did};
+ghost use Rattle.leaf_walk.specs.Walks.{Walks};
 ghost use Rattle.width_loop.specs.Here.{Here, ownHere, settledHere};
 use crate::leaves;
 use crate::nodes;
@@ -33,9 +34,9 @@ fn nested_node(
     n: u64,
 ) -> u8
     requires { ⌜ Here (now formats) (now schema) (now lengths) (now places) (now body) first count target i s n ⌝ }
-    requires { ⌜ (isFixed (codeOf (now formats) (now schema) first i) ≡ false) × (isString (codeOf (now formats) (now schema) first i) ≡ false) × (isView (codeOf (now formats) (now schema) first i) ≡ false) ⌝ }
-    ensures { λ g. ⌜ ((buffers : List ℕ) → Did (now (plan .entry)) (now (parts .entry)) write (ownHere (now (formats .entry)) (now (schema .entry)) (now (lengths .entry)) (now (places .entry)) buffers (now (body .entry)) (now (plan .entry)) first count target i s n (now (counters .entry))) (now (room .entry)) g (now (counters .exit)) (now (room .exit))) ⌝ }
-    ensures { λ g. ⌜ ((buffers : List ℕ) → g ≡ 0 → now (ranges .exit) ≡ settledHere (now (formats .entry)) (now (schema .entry)) (now (lengths .entry)) (now (places .entry)) buffers (now (body .entry)) (now (plan .entry)) first count target i s n (now (ranges .entry))) ⌝ }
+    requires { let c = codeOf (now formats) (now schema) first i in ⌜ (isFixed c ≡ false) × (isString c ≡ false) × (isView c ≡ false) ⌝ }
+    ensures { λ g. ⌜ ((buffers : List ℕ) → Walks plan parts write (ownHere (was formats) (was schema) (was lengths) (was places) buffers (was body) (was plan) first count target i s n) counters room g) ⌝ }
+    ensures { λ g. ⌜ ((buffers : List ℕ) → g ≡ 0 → left ranges ≡ settledHere (was formats) (was schema) (was lengths) (was places) buffers (was body) (was plan) first count target i s n (was ranges)) ⌝ }
 {
     let code = schema::code_of(formats, schema, first as usize, i);
     if schema::formats::is_run_end(code) {
@@ -137,8 +138,8 @@ pub fn walk_data(
     n: u64,
 ) -> u8
     requires { ⌜ Here (now formats) (now schema) (now lengths) (now places) (now body) first count target i s n ⌝ }
-    ensures { λ g. ⌜ ((buffers : List ℕ) → Did (now (plan .entry)) (now (parts .entry)) write (ownHere (now (formats .entry)) (now (schema .entry)) (now (lengths .entry)) (now (places .entry)) buffers (now (body .entry)) (now (plan .entry)) first count target i s n (now (counters .entry))) (now (room .entry)) g (now (counters .exit)) (now (room .exit))) ⌝ }
-    ensures { λ g. ⌜ ((buffers : List ℕ) → g ≡ 0 → now (ranges .exit) ≡ settledHere (now (formats .entry)) (now (schema .entry)) (now (lengths .entry)) (now (places .entry)) buffers (now (body .entry)) (now (plan .entry)) first count target i s n (now (ranges .entry))) ⌝ }
+    ensures { λ g. ⌜ ((buffers : List ℕ) → Walks plan parts write (ownHere (was formats) (was schema) (was lengths) (was places) buffers (was body) (was plan) first count target i s n) counters room g) ⌝ }
+    ensures { λ g. ⌜ ((buffers : List ℕ) → g ≡ 0 → left ranges ≡ settledHere (was formats) (was schema) (was lengths) (was places) buffers (was body) (was plan) first count target i s n (was ranges)) ⌝ }
 {
     let code = schema::code_of(formats, schema, first as usize, i);
     if schema::formats::is_fixed(code) {

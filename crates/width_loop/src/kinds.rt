@@ -6,6 +6,7 @@ ghost use mathlib.Core.Option.{some};
 ghost use mathlib.Core.List.{List, [], _∷_};
 ghost use Prim.Native.Nat.{ℕ, suc, _+_, _*_, _<_, _≤_, _^_};
 ghost use lib.ListN.{length, take, drop};
+ghost use Rattle.clauses.specs.Slices.{was, left};
 ghost use Rattle.columnar.specs.Types.{Number, width, half};
 ghost use Rattle.columnar.specs.Array.{item, ok};
 ghost use Rattle.columnar.specs.Plain.{OffsetsRule};
@@ -20,6 +21,7 @@ ghost use Rattle.array_data.specs.entries.Entries.{column};
 ghost use Rattle.array_data.specs.type_tree.Lent.{treeOf};
 ghost use Rattle.walk.specs.State.{setBytes};
 ghost use Rattle.walk.specs.Log.{Did, put, applyIf};
+ghost use Rattle.leaf_walk.specs.Walks.{Walks};
 ghost use Rattle.width_walks.specs.Nodes.{ownAs, settleAs};
 ghost use Rattle.width_loop.specs.Steps.{Inside};
 use crate::leaves;
@@ -43,8 +45,8 @@ fn put_chars(
     span: u64,
 )
     requires { ⌜ (i < 32) × (place (column [] (now places) [] [] first) i 5 + base + span ≤ length (now body)) ⌝ }
-    ensures { λ _. ⌜ now (room .exit) ≡ applyIf (now (plan .entry)) (now (parts .entry)) write (put i 2 0 (take span (drop (place (column [] (now (places .entry)) [] [] first) i 5 + base) (now (body .entry)))) ∷ []) (now (room .entry)) ⌝ }
-    ensures { λ _. ⌜ now (counters .exit) ≡ setBytes i span (now (counters .entry)) ⌝ }
+    ensures { λ _. ⌜ left room ≡ applyIf (was plan) (was parts) write (put i 2 0 (take span (drop (place (column [] (was places) [] [] first) i 5 + base) (was body))) ∷ []) (was room) ⌝ }
+    ensures { λ _. ⌜ left counters ≡ setBytes i span (was counters) ⌝ }
 {
     let from = entries::place_at(places, first, i, 5) + base;
     room_writes::put_copy(plan, parts, room, write, i, 2, 0, body, from as usize, span);
@@ -70,7 +72,7 @@ pub fn walk_string(
     requires { ⌜ (i < 32) × (s + n < 2 ^ 63) × Inside (column [] (now places) [] (now body) first) i 3 × Inside (column [] (now places) [] (now body) first) i 5 ⌝ }
     requires { ⌜ ((w ≡ 4 → ⊥) → w ≡ 8) × ((w2 ≡ 4 → ⊥) → w2 ≡ 8) ⌝ }
     requires { ⌜ OffsetsRule w (firstBuffer (column [] (now places) [] (now body) first) i) (length (secondBuffer (column [] (now places) [] (now body) first) i)) s n ⌝ }
-    ensures { λ g. ⌜ ((t t2 : Tree) (okay : ℕ → Bool) → Did (now (plan .entry)) (now (parts .entry)) write (ownAs t t2 (column [] (now (places .entry)) [] (now (body .entry)) first) (now (plan .entry)) (stringNode w) (stringNode w2) i okay s n (now (counters .entry))) (now (room .entry)) g (now (counters .exit)) (now (room .exit))) ⌝ }
+    ensures { λ g. ⌜ ((t t2 : Tree) (okay : ℕ → Bool) → Walks plan parts write (ownAs t t2 (column [] (was places) [] (was body) first) (was plan) (stringNode w) (stringNode w2) i okay s n) counters room g) ⌝ }
 {
     let at = entries::place_at(places, first, i, 3);
     let size = entries::place_at(places, first, i, 4);
@@ -113,12 +115,12 @@ pub fn walk_list_view(
     s: u64,
     n: u64,
 ) -> u8
-    requires { ⌜ (i + 1 < 32) × Inside (column [] (now places) [] (now body) first) i 3 × Inside (column [] (now places) [] (now body) first) i 5 × ((s + n) * w ≤ place (column [] (now places) [] [] first) i 4) × ((s + n) * w ≤ place (column [] (now places) [] [] first) i 6) ⌝ }
-    requires { ⌜ ((j : ℕ) → j < n → item w (firstBuffer (column [] (now places) [] (now body) first) i) (s + j) < half w) × ((j : ℕ) → j < n → item w (secondBuffer (column [] (now places) [] (now body) first) i) (s + j) < half w) ⌝ }
-    requires { ⌜ ((j : ℕ) → j < n → item w (firstBuffer (column [] (now places) [] (now body) first) i) (s + j) ≤ lengthOf (column (now lengths) [] [] [] first) (suc i)) × ((j : ℕ) → j < n → item w (secondBuffer (column [] (now places) [] (now body) first) i) (s + j) ≤ lengthOf (column (now lengths) [] [] [] first) (suc i)) ⌝ }
+    requires { let c = column [] (now places) [] (now body) first in let c2 = column [] (now places) [] [] first in ⌜ (i + 1 < 32) × Inside c i 3 × Inside c i 5 × ((s + n) * w ≤ place c2 i 4) × ((s + n) * w ≤ place c2 i 6) ⌝ }
+    requires { let c = column [] (now places) [] (now body) first in ⌜ ((j : ℕ) → j < n → item w (firstBuffer c i) (s + j) < half w) × ((j : ℕ) → j < n → item w (secondBuffer c i) (s + j) < half w) ⌝ }
+    requires { let c = column [] (now places) [] (now body) first in let c2 = column (now lengths) [] [] [] first in ⌜ ((j : ℕ) → j < n → item w (firstBuffer c i) (s + j) ≤ lengthOf c2 (suc i)) × ((j : ℕ) → j < n → item w (secondBuffer c i) (s + j) ≤ lengthOf c2 (suc i)) ⌝ }
     requires { ⌜ ((w ≡ 4 → ⊥) → w ≡ 8) × ((w2 ≡ 4 → ⊥) → w2 ≡ 8) ⌝ }
-    ensures { λ g. ⌜ ((t t2 : Tree) (okay : ℕ → Bool) (c : List ℕ) → Did (now (plan .entry)) (now (parts .entry)) write (ownAs t t2 (column [] (now (places .entry)) [] (now (body .entry)) first) (now (plan .entry)) (listViewNode w) (listViewNode w2) i okay s n c) (now (room .entry)) g c (now (room .exit))) ⌝ }
-    ensures { λ g. ⌜ ((t t2 : Tree) → g ≡ 0 → now (ranges .exit) ≡ settleAs t t2 (column (now (lengths .entry)) (now (places .entry)) [] (now (body .entry)) first) (now (plan .entry)) (listViewNode w) i s n (now (ranges .entry))) ⌝ }
+    ensures { λ g. ⌜ ((t t2 : Tree) (okay : ℕ → Bool) (c : List ℕ) → Did (was plan) (was parts) write (ownAs t t2 (column [] (was places) [] (was body) first) (was plan) (listViewNode w) (listViewNode w2) i okay s n c) (was room) g c (left room)) ⌝ }
+    ensures { λ g. ⌜ ((t t2 : Tree) → g ≡ 0 → left ranges ≡ settleAs t t2 (column (was lengths) (was places) [] (was body) first) (was plan) (listViewNode w) i s n (was ranges)) ⌝ }
 {
     let at = entries::place_at(places, first, i, 3);
     let too = entries::place_at(places, first, i, 5);
@@ -164,8 +166,8 @@ pub fn walk_list(
     requires { ⌜ (i + 1 < 32) × (s + n < 2 ^ 63) × Inside (column [] (now places) [] (now body) first) i 3 ⌝ }
     requires { ⌜ ((w ≡ 4 → ⊥) → w ≡ 8) × ((w2 ≡ 4 → ⊥) → w2 ≡ 8) ⌝ }
     requires { ⌜ ((most : ℕ) × OffsetsRule w (firstBuffer (column [] (now places) [] (now body) first) i) most s n) ⌝ }
-    ensures { λ g. ⌜ ((t t2 : Tree) (okay : ℕ → Bool) (c : List ℕ) → Did (now (plan .entry)) (now (parts .entry)) write (ownAs t t2 (column [] (now (places .entry)) [] (now (body .entry)) first) (now (plan .entry)) (listNode w) (listNode w2) i okay s n c) (now (room .entry)) g c (now (room .exit))) ⌝ }
-    ensures { λ g. ⌜ ((t t2 : Tree) → g ≡ 0 → now (ranges .exit) ≡ settleAs t t2 (column [] (now (places .entry)) [] (now (body .entry)) first) (now (plan .entry)) (listNode w) i s n (now (ranges .entry))) ⌝ }
+    ensures { λ g. ⌜ ((t t2 : Tree) (okay : ℕ → Bool) (c : List ℕ) → Did (was plan) (was parts) write (ownAs t t2 (column [] (was places) [] (was body) first) (was plan) (listNode w) (listNode w2) i okay s n c) (was room) g c (left room)) ⌝ }
+    ensures { λ g. ⌜ ((t t2 : Tree) → g ≡ 0 → left ranges ≡ settleAs t t2 (column [] (was places) [] (was body) first) (was plan) (listNode w) i s n (was ranges)) ⌝ }
 {
     let at = entries::place_at(places, first, i, 3);
     let size = entries::place_at(places, first, i, 4);
@@ -199,8 +201,8 @@ pub fn walk_sparse(
 )
     requires { ⌜ (count ≤ 32) × (i < count) × Inside (column [] (now places) [] (now body) first) i 3 × ((s + n) * 1 ≤ place (column [] (now places) [] [] first) i 4) ⌝ }
     requires { ⌜ ((j : ℕ) → j < m → childAt (now schema) first count i j < 32) ⌝ }
-    ensures { λ _. ⌜ ((t t2 : Tree) (k2 : NodeKind) (ids : List ℕ) (okay : ℕ → Bool) (c : List ℕ) → Did (now (plan .entry)) (now (parts .entry)) write (ownAs t t2 (column [] (now (places .entry)) [] (now (body .entry)) first) (now (plan .entry)) (sparseNode ids) k2 i okay s n c) (now (room .entry)) 0 c (now (room .exit))) ⌝ }
-    ensures { λ _. ⌜ ((formats buffers ids : List ℕ) (t2 : Tree) → length ids ≡ m → now (ranges .exit) ≡ settleAs (treeOf formats (now (schema .entry)) first count) t2 (column (now (lengths .entry)) (now (places .entry)) buffers (now (body .entry)) first) (now (plan .entry)) (sparseNode ids) i s n (now (ranges .entry))) ⌝ }
+    ensures { λ _. ⌜ ((t t2 : Tree) (k2 : NodeKind) (ids : List ℕ) (okay : ℕ → Bool) (c : List ℕ) → Did (was plan) (was parts) write (ownAs t t2 (column [] (was places) [] (was body) first) (was plan) (sparseNode ids) k2 i okay s n c) (was room) 0 c (left room)) ⌝ }
+    ensures { λ _. ⌜ ((formats buffers ids : List ℕ) (t2 : Tree) → length ids ≡ m → left ranges ≡ settleAs (treeOf formats (was schema) first count) t2 (column (was lengths) (was places) buffers (was body) first) (was plan) (sparseNode ids) i s n (was ranges)) ⌝ }
 {
     let at = entries::place_at(places, first, i, 3);
     leaves::put_slots(plan, parts, body, room, write, i, 1, at, 1, s, n);
@@ -225,10 +227,10 @@ pub fn walk_dense(
     s: u64,
     n: u64,
 )
-    requires { ⌜ (count ≤ 32) × (i < count) × Inside (column [] (now places) [] (now body) first) i 3 × Inside (column [] (now places) [] (now body) first) i 5 × ((s + n) * 1 ≤ place (column [] (now places) [] [] first) i 4) × ((s + n) * 4 ≤ place (column [] (now places) [] [] first) i 6) ⌝ }
+    requires { let c = column [] (now places) [] (now body) first in let c2 = column [] (now places) [] [] first in ⌜ (count ≤ 32) × (i < count) × Inside c i 3 × Inside c i 5 × ((s + n) * 1 ≤ place c2 i 4) × ((s + n) * 4 ≤ place c2 i 6) ⌝ }
     requires { ⌜ ((j : ℕ) → j < m → childAt (now schema) first count i j < 32) ⌝ }
-    ensures { λ _. ⌜ ((t t2 : Tree) (k2 : NodeKind) (ids : List ℕ) (okay : ℕ → Bool) (c : List ℕ) → Did (now (plan .entry)) (now (parts .entry)) write (ownAs t t2 (column [] (now (places .entry)) [] (now (body .entry)) first) (now (plan .entry)) (denseNode ids) k2 i okay s n c) (now (room .entry)) 0 c (now (room .exit))) ⌝ }
-    ensures { λ _. ⌜ ((formats buffers ids : List ℕ) (t2 : Tree) → length ids ≡ m → now (ranges .exit) ≡ settleAs (treeOf formats (now (schema .entry)) first count) t2 (column (now (lengths .entry)) (now (places .entry)) buffers (now (body .entry)) first) (now (plan .entry)) (denseNode ids) i s n (now (ranges .entry))) ⌝ }
+    ensures { λ _. ⌜ ((t t2 : Tree) (k2 : NodeKind) (ids : List ℕ) (okay : ℕ → Bool) (c : List ℕ) → Did (was plan) (was parts) write (ownAs t t2 (column [] (was places) [] (was body) first) (was plan) (denseNode ids) k2 i okay s n c) (was room) 0 c (left room)) ⌝ }
+    ensures { λ _. ⌜ ((formats buffers ids : List ℕ) (t2 : Tree) → length ids ≡ m → left ranges ≡ settleAs (treeOf formats (was schema) first count) t2 (column (was lengths) (was places) buffers (was body) first) (was plan) (denseNode ids) i s n (was ranges)) ⌝ }
 {
     let at = entries::place_at(places, first, i, 3);
     leaves::put_slots(plan, parts, body, room, write, i, 1, at, 1, s, n);
@@ -258,8 +260,8 @@ pub fn walk_keys(
     requires { ⌜ (i + 1 < 32) × (s + n < 2 ^ 63) × Inside (column [] (now places) [] (now body) first) i 3 × ((s + n) * w ≤ place (column [] (now places) [] [] first) i 4) × (isInteger code ≡ true) ⌝ }
     requires { ⌜ (validIn (column [] (now places) [] (now body) first) i ≡ true) × (maskTest true (validOf (column [] (now places) [] (now body) first) i) (s + n) ≡ true) ⌝ }
     requires { ⌜ ((w ≡ 1 → ⊥) → (w ≡ 2 → ⊥) → (w ≡ 4 → ⊥) → w ≡ 8) × ((w2 ≡ 1 → ⊥) → (w2 ≡ 2 → ⊥) → (w2 ≡ 4 → ⊥) → w2 ≡ 8) ⌝ }
-    ensures { λ g. ⌜ ((t t2 : Tree) (m m2 : Number) (c : List ℕ) → width m ≡ w → numberOf code ≡ some m2 → width m2 ≡ w2 → Did (now (plan .entry)) (now (parts .entry)) write (ownAs t t2 (column (now (lengths .entry)) (now (places .entry)) [] (now (body .entry)) first) (now (plan .entry)) (dictionaryNode m) (dictionaryNode m2) i (ok (validOf (column [] (now (places .entry)) [] (now (body .entry)) first) i)) s n c) (now (room .entry)) g c (now (room .exit))) ⌝ }
-    ensures { λ g. ⌜ ((t t2 : Tree) (m : Number) → g ≡ 0 → now (ranges .exit) ≡ settleAs t t2 (column (now (lengths .entry)) (now (places .entry)) [] (now (body .entry)) first) (now (plan .entry)) (dictionaryNode m) i s n (now (ranges .entry))) ⌝ }
+    ensures { λ g. ⌜ ((t t2 : Tree) (m m2 : Number) (c : List ℕ) → width m ≡ w → numberOf code ≡ some m2 → width m2 ≡ w2 → Did (was plan) (was parts) write (ownAs t t2 (column (was lengths) (was places) [] (was body) first) (was plan) (dictionaryNode m) (dictionaryNode m2) i (ok (validOf (column [] (was places) [] (was body) first) i)) s n c) (was room) g c (left room)) ⌝ }
+    ensures { λ g. ⌜ ((t t2 : Tree) (m : Number) → g ≡ 0 → left ranges ≡ settleAs t t2 (column (was lengths) (was places) [] (was body) first) (was plan) (dictionaryNode m) i s n (was ranges)) ⌝ }
 {
     let entries = entries::length_at(lengths, first, i + 1);
     if !dictionaries::key_fits(0, entries, code) {

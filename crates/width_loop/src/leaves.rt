@@ -5,6 +5,7 @@ ghost use mathlib.Core.List.{List, [], _∷_};
 ghost use Prim.Native.Nat.{ℕ, _+_, _*_, _-_, _<_, _≤_, _^_};
 ghost use lib.ListN.{length, take, drop};
 ghost use lib.Dec.{ltb};
+ghost use Rattle.clauses.specs.Slices.{was, left};
 ghost use Rattle.number.specs.Number.{entry};
 ghost use Rattle.recode.specs.Recode.{allBelow};
 ghost use Rattle.columnar.specs.Row.{seg};
@@ -39,7 +40,7 @@ pub fn put_bits(
 )
     requires { ⌜ (i < 32) × (s + n < 2 ^ 63) ⌝ }
     requires { ⌜ (validIn (column [] (now places) [] (now body) first) i ≡ true) × (maskTest true (validOf (column [] (now places) [] (now body) first) i) (s + n) ≡ true) ⌝ }
-    ensures { λ _. ⌜ ((c : List ℕ) → Did (now (plan .entry)) (now (parts .entry)) write (bitsWalk (now (plan .entry)) i (ok (validOf (column [] (now (places .entry)) [] (now (body .entry)) first) i)) s n c) (now (room .entry)) 0 c (now (room .exit))) ⌝ }
+    ensures { λ _. ⌜ ((c : List ℕ) → Did (was plan) (was parts) write (bitsWalk (was plan) i (ok (validOf (column [] (was places) [] (was body) first) i)) s n c) (was room) 0 c (left room)) ⌝ }
 {
     if plan_words::keeps_of(plan, i) == 0 {
         return;
@@ -67,7 +68,7 @@ pub fn put_slots(
     n: u64,
 )
     requires { ⌜ (i < 32) × (b < 3) × (at + w * (s + n) ≤ length (now body)) ⌝ }
-    ensures { λ _. ⌜ now (room .exit) ≡ applyIf (now (plan .entry)) (now (parts .entry)) write (put i b 0 (take (w * n) (drop (at + w * s) (now (body .entry)))) ∷ []) (now (room .entry)) ⌝ }
+    ensures { λ _. ⌜ left room ≡ applyIf (was plan) (was parts) write (put i b 0 (take (w * n) (drop (at + w * s) (was body))) ∷ []) (was room) ⌝ }
 {
     let from = at + w * s;
     room_writes::put_copy(
@@ -88,7 +89,7 @@ pub fn put_slots(
 pub fn offset_at(body: &[u8], at: u64, size: u64, w: u64, p: u64) -> u64
     requires { ⌜ (at + size ≤ length (now body)) × ((size ≡ 0 → ⊥) → (p + 1) * w ≤ size) ⌝ }
     requires { ⌜ ((w ≡ 4 → ⊥) → w ≡ 8) ⌝ }
-    ensures { λ r. ⌜ r ≡ item w (part (now (body .entry)) at size) p ⌝ }
+    ensures { λ r. ⌜ r ≡ item w (part (was body) at size) p ⌝ }
 {
     if size == 0 {
         return 0;
@@ -114,7 +115,7 @@ pub fn put_offsets(
     requires { ⌜ (i < 32) × (at + size ≤ length (now body)) × (s + n < 2 ^ 63) ⌝ }
     requires { ⌜ ((w ≡ 4 → ⊥) → w ≡ 8) × ((w2 ≡ 4 → ⊥) → w2 ≡ 8) ⌝ }
     requires { ⌜ ((most : ℕ) × OffsetsRule w (part (now body) at size) most s n) ⌝ }
-    ensures { λ g. ⌜ ((c : List ℕ) → Did (now (plan .entry)) (now (parts .entry)) write (need (ltb (spanOf w (part (now (body .entry)) at size) s n) (half w2)) 6 c (wrote (put i 1 0 (encodes w2 (offsetsOf w (part (now (body .entry)) at size) s n))) c)) (now (room .entry)) g c (now (room .exit))) ⌝ }
+    ensures { λ g. let p = part (was body) at size in ⌜ ((c : List ℕ) → Did (was plan) (was parts) write (need (ltb (spanOf w p s n) (half w2)) 6 c (wrote (put i 1 0 (encodes w2 (offsetsOf w p s n))) c)) (was room) g c (left room)) ⌝ }
 {
     let base = offset_at(body, at, size, w, s);
     let span = offset_at(body, at, size, w, s + n) - base;
@@ -160,7 +161,7 @@ fn half_of(w: u64) -> u64
 fn all_fit(body: &[u8], from: usize, w: u64, w2: u64, n: usize, most: u64) -> bool
     requires { ⌜ (from + w * n ≤ length (now body)) × ((j : ℕ) → j < n → entry w (now body) from j < half w) × ((j : ℕ) → j < n → entry w (now body) from j ≤ most) ⌝ }
     requires { ⌜ ((w ≡ 4 → ⊥) → w ≡ 8) × ((w2 ≡ 4 → ⊥) → w2 ≡ 8) ⌝ }
-    ensures { λ r. ⌜ r ≡ allBelow w (now (body .entry)) from (half w2) n ⌝ }
+    ensures { λ r. ⌜ r ≡ allBelow w (was body) from (half w2) n ⌝ }
 {
     if w <= w2 {
         return true;
@@ -193,7 +194,7 @@ pub fn put_pairs(
     requires { ⌜ ((w ≡ 4 → ⊥) → w ≡ 8) × ((w2 ≡ 4 → ⊥) → w2 ≡ 8) ⌝ }
     requires { ⌜ ((j : ℕ) → j < n → entry w (now body) (at + w * s) j < half w) × ((j : ℕ) → j < n → entry w (now body) (too + w * s) j < half w) ⌝ }
     requires { ⌜ ((j : ℕ) → j < n → entry w (now body) (at + w * s) j ≤ most) × ((j : ℕ) → j < n → entry w (now body) (too + w * s) j ≤ most) ⌝ }
-    ensures { λ g. ⌜ ((size room2 : ℕ) (c : List ℕ) → at + size ≤ length (now (body .entry)) → too + room2 ≤ length (now (body .entry)) → (s + n) * w ≤ size → (s + n) * w ≤ room2 → Did (now (plan .entry)) (now (parts .entry)) write (pairsWalk (part (now (body .entry)) at size) (part (now (body .entry)) too room2) w w2 i s n c) (now (room .entry)) g c (now (room .exit))) ⌝ }
+    ensures { λ g. ⌜ ((size room2 : ℕ) (c : List ℕ) → at + size ≤ length (was body) → too + room2 ≤ length (was body) → (s + n) * w ≤ size → (s + n) * w ≤ room2 → Did (was plan) (was parts) write (pairsWalk (part (was body) at size) (part (was body) too room2) w w2 i s n c) (was room) g c (left room)) ⌝ }
 {
     let offsets = at + w * s;
     if !all_fit(body, offsets as usize, w, w2, n as usize, most) {
@@ -247,10 +248,10 @@ pub fn put_keys(
     s: u64,
     n: u64,
 )
-    requires { ⌜ (i < 32) × (s + n < 2 ^ 63) × ((s + n) * w ≤ place (column [] (now places) [] (now body) first) i 4) × (place (column [] (now places) [] (now body) first) i 3 + place (column [] (now places) [] (now body) first) i 4 ≤ length (now body)) ⌝ }
+    requires { let c = column [] (now places) [] (now body) first in ⌜ (i < 32) × (s + n < 2 ^ 63) × ((s + n) * w ≤ place c i 4) × (place c i 3 + place c i 4 ≤ length (now body)) ⌝ }
     requires { ⌜ (validIn (column [] (now places) [] (now body) first) i ≡ true) × (maskTest true (validOf (column [] (now places) [] (now body) first) i) (s + n) ≡ true) ⌝ }
     requires { ⌜ ((w ≡ 1 → ⊥) → (w ≡ 2 → ⊥) → (w ≡ 4 → ⊥) → w ≡ 8) × ((w2 ≡ 1 → ⊥) → (w2 ≡ 2 → ⊥) → (w2 ≡ 4 → ⊥) → w2 ≡ 8) ⌝ }
-    ensures { λ _. ⌜ now (room .exit) ≡ applyIf (now (plan .entry)) (now (parts .entry)) write (put i 1 0 (encodes w2 (seg (λ j. cond (ok (validOf (column [] (now (places .entry)) [] (now (body .entry)) first) i) j) (item w (firstBuffer (column [] (now (places .entry)) [] (now (body .entry)) first) i) j) 0) s n)) ∷ []) (now (room .entry)) ⌝ }
+    ensures { λ _. let c = column [] (was places) [] (was body) first in ⌜ left room ≡ applyIf (was plan) (was parts) write (put i 1 0 (encodes w2 (seg (λ j. cond (ok (validOf c i) j) (item w (firstBuffer c i) j) 0) s n)) ∷ []) (was room) ⌝ }
 {
     let at = entries::place_at(places, first, i, 3);
     let from = at + w * s;

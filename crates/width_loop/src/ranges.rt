@@ -3,6 +3,7 @@ ghost use mathlib.Core.Path.{_≡_};
 ghost use mathlib.Core.Bool.{cond};
 ghost use mathlib.Core.List.{List};
 ghost use Prim.Native.Nat.{ℕ, _<_, _≤_};
+ghost use Rattle.clauses.specs.Slices.{was, left};
 ghost use Rattle.schema.specs.Tree.{childAt};
 ghost use Rattle.array_data.specs.Tables.{lengthOf};
 ghost use Rattle.array_data.specs.Typed.{Tree};
@@ -14,7 +15,7 @@ use array_data::entries;
 // The rows of node k: n from row a on.
 pub fn set_range(ranges: &mut [u64; 64], k: usize, a: u64, n: u64)
     requires { ⌜ k < 32 ⌝ }
-    ensures { λ _. ⌜ now (ranges .exit) ≡ range k a n (now (ranges .entry)) ⌝ }
+    ensures { λ _. ⌜ left ranges ≡ range k a n (was ranges) ⌝ }
 {
     ranges[2 * k] = a;
     ranges[2 * k + 1] = n;
@@ -31,7 +32,7 @@ fn set_child(
     n: u64,
 )
     requires { ⌜ k < 32 ⌝ }
-    ensures { λ _. ⌜ ((places buffers body : List ℕ) → now (ranges .exit) ≡ range k (cond whole 0 s) (cond whole (lengthOf (column (now (lengths .entry)) places buffers body first) k) n) (now (ranges .entry))) ⌝ }
+    ensures { λ _. ⌜ ((places buffers body : List ℕ) → left ranges ≡ range k (cond whole 0 s) (cond whole (lengthOf (column (was lengths) places buffers body first) k) n) (was ranges)) ⌝ }
 {
     if whole {
         set_range(ranges, k, 0, entries::length_at(lengths, first, k));
@@ -55,7 +56,7 @@ pub fn settle_fields(
 )
     requires { ⌜ (count ≤ 32) × (i < count) ⌝ }
     requires { ⌜ ((j : ℕ) → j < m → childAt (now schema) first count i j < 32) ⌝ }
-    ensures { λ _. ⌜ ((formats places buffers body plan : List ℕ) (t : Tree) → now (ranges .exit) ≡ childRanges (treeOf formats (now (schema .entry)) first count) t (column (now (lengths .entry)) places buffers body first) plan (λ k. cond whole 0 s) (λ k. cond whole (lengthOf (column (now (lengths .entry)) places buffers body first) k) n) i m (now (ranges .entry))) ⌝ }
+    ensures { λ _. ⌜ ((formats places buffers body plan : List ℕ) (t : Tree) → let c = column (was lengths) places buffers body first in left ranges ≡ childRanges (treeOf formats (was schema) first count) t c plan (λ k. cond whole 0 s) (λ k. cond whole (lengthOf c k) n) i m (was ranges)) ⌝ }
 {
     let mut node = i + 1;
     let mut j = 0;

@@ -4,13 +4,15 @@ ghost use mathlib.Core.Bool.{Bool};
 ghost use mathlib.Core.List.{[], _∷_, _++_};
 ghost use Prim.Native.Nat.{ℕ, suc, _+_, _*_, _-_, _<_, _≤_, _^_};
 ghost use lib.ListN.{length};
+ghost use Rattle.clauses.specs.Slices.{was, left};
 ghost use Rattle.number.specs.Number.{encode};
 ghost use Rattle.array_data.specs.Tables.{lengthOf, offsetOf};
 ghost use Rattle.array_data.specs.NodeKinds.{runEndNode};
 ghost use Rattle.array_data.specs.Typed.{Tree};
 ghost use Rattle.array_data.specs.entries.Entries.{column};
 ghost use Rattle.walk.specs.State.{addRows};
-ghost use Rattle.walk.specs.Log.{Did, put, applyIf};
+ghost use Rattle.walk.specs.Log.{put, applyIf};
+ghost use Rattle.leaf_walk.specs.Walks.{Walks};
 ghost use Rattle.recode.specs.Recode.{lessened};
 ghost use Rattle.width_walks.specs.Nodes.{range, ownAs, settleAs};
 ghost use Rattle.width_loop.specs.Steps.{RunsHere, runsWalk, runsRange};
@@ -41,8 +43,8 @@ fn put_range(
 )
     requires { ⌜ (i + 2 < 32) × (1 ≤ m) × (ends + w * (a + m) ≤ length (now body)) ⌝ }
     requires { ⌜ ((w ≡ 2 → ⊥) → (w ≡ 4 → ⊥) → w ≡ 8) × ((w2 ≡ 2 → ⊥) → (w2 ≡ 4 → ⊥) → w2 ≡ 8) ⌝ }
-    ensures { λ _. ⌜ now (room .exit) ≡ applyIf (now (plan .entry)) (now (parts .entry)) write (put (suc i) 1 0 (lessened w w2 (now (body .entry)) (ends + w * a) s (m - 1) ++ encode w2 n) ∷ []) (now (room .entry)) ⌝ }
-    ensures { λ _. ⌜ (now (counters .exit) ≡ addRows (suc i) m (now (counters .entry))) × (now (ranges .exit) ≡ range (suc (suc i)) a m (now (ranges .entry))) ⌝ }
+    ensures { λ _. ⌜ left room ≡ applyIf (was plan) (was parts) write (put (suc i) 1 0 (lessened w w2 (was body) (ends + w * a) s (m - 1) ++ encode w2 n) ∷ []) (was room) ⌝ }
+    ensures { λ _. ⌜ (left counters ≡ addRows (suc i) m (was counters)) × (left ranges ≡ range (suc (suc i)) a m (was ranges)) ⌝ }
 {
     let from = ends + w * a;
     width_walks::width_writes::put_ends(
@@ -85,8 +87,8 @@ fn put_runs(
     requires { ⌜ (i + 2 < 32) × (1 ≤ n) × (s + n < 2 ^ 63) × (offsetOf (column (now lengths) [] [] [] first) (suc i) + lengthOf (column (now lengths) [] [] [] first) (suc i) < 2 ^ 63) ⌝ }
     requires { ⌜ ((w ≡ 2 → ⊥) → (w ≡ 4 → ⊥) → w ≡ 8) × ((w2 ≡ 2 → ⊥) → (w2 ≡ 4 → ⊥) → w2 ≡ 8) ⌝ }
     requires { ⌜ RunsHere (column (now lengths) (now places) [] (now body) first) i w s n ⌝ }
-    ensures { λ _. ⌜ Did (now (plan .entry)) (now (parts .entry)) write (runsWalk (column (now (lengths .entry)) (now (places .entry)) [] (now (body .entry)) first) w w2 i s n (now (counters .entry))) (now (room .entry)) 0 (now (counters .exit)) (now (room .exit)) ⌝ }
-    ensures { λ _. ⌜ now (ranges .exit) ≡ runsRange (column (now (lengths .entry)) (now (places .entry)) [] (now (body .entry)) first) w i s n (now (ranges .entry)) ⌝ }
+    ensures { λ _. ⌜ Walks plan parts write (runsWalk (column (was lengths) (was places) [] (was body) first) w w2 i s n) counters room 0 ⌝ }
+    ensures { λ _. ⌜ left ranges ≡ runsRange (column (was lengths) (was places) [] (was body) first) w i s n (was ranges) ⌝ }
 {
     let off = entries::offset_at(lengths, first, i + 1);
     let ends = entries::place_at(places, first, i + 1, 3) + w * off;
@@ -141,8 +143,8 @@ pub fn walk_runs(
     requires { ⌜ (i + 2 < 32) × (s + n < 2 ^ 63) × (offsetOf (column (now lengths) [] [] [] first) (suc i) + lengthOf (column (now lengths) [] [] [] first) (suc i) < 2 ^ 63) ⌝ }
     requires { ⌜ ((w ≡ 2 → ⊥) → (w ≡ 4 → ⊥) → w ≡ 8) × ((w2 ≡ 2 → ⊥) → (w2 ≡ 4 → ⊥) → w2 ≡ 8) ⌝ }
     requires { ⌜ RunsHere (column (now lengths) (now places) [] (now body) first) i w s n ⌝ }
-    ensures { λ g. ⌜ ((t t2 : Tree) (okay : ℕ → Bool) → Did (now (plan .entry)) (now (parts .entry)) write (ownAs t t2 (column (now (lengths .entry)) (now (places .entry)) [] (now (body .entry)) first) (now (plan .entry)) (runEndNode w) (runEndNode w2) i okay s n (now (counters .entry))) (now (room .entry)) g (now (counters .exit)) (now (room .exit))) ⌝ }
-    ensures { λ g. ⌜ ((t t2 : Tree) → g ≡ 0 → now (ranges .exit) ≡ settleAs t t2 (column (now (lengths .entry)) (now (places .entry)) [] (now (body .entry)) first) (now (plan .entry)) (runEndNode w) i s n (now (ranges .entry))) ⌝ }
+    ensures { λ g. ⌜ ((t t2 : Tree) (okay : ℕ → Bool) → Walks plan parts write (ownAs t t2 (column (was lengths) (was places) [] (was body) first) (was plan) (runEndNode w) (runEndNode w2) i okay s n) counters room g) ⌝ }
+    ensures { λ g. ⌜ ((t t2 : Tree) → g ≡ 0 → left ranges ≡ settleAs t t2 (column (was lengths) (was places) [] (was body) first) (was plan) (runEndNode w) i s n (was ranges)) ⌝ }
 {
     if n == 0 {
         plan_words::add_rows(counters, i + 1, 0);

@@ -4,12 +4,13 @@ ghost use mathlib.Core.Bool.{true};
 ghost use mathlib.Core.List.{List};
 ghost use Prim.Native.Nat.{ℕ, _≤_};
 ghost use lib.ListN.{length, replicate};
+ghost use Rattle.clauses.specs.Slices.{was, left};
 ghost use Rattle.array_data.specs.lent_tables.Lent.{tables};
 ghost use Rattle.source_rules.specs.kinds.Rows.{tablesOf};
 ghost use Rattle.columns.specs.Grounds.{columnGround};
 ghost use Rattle.walk.specs.Log.{Did};
 ghost use Rattle.anew.specs.ResultPlan.{Comes, planBy};
-ghost use Rattle.with_capacities.specs.Answer.{Answers};
+ghost use Rattle.with_capacities.specs.Answer.{Makes, lentTables};
 ghost use Rattle.anew.specs.result_plan.Answer.{Asks};
 ghost use Rattle.width_walks.specs.target_rules.Target.{isTarget};
 ghost use Rattle.width_walks.specs.Call.{fromWords, asked, convert};
@@ -30,7 +31,7 @@ fn ground_of(
     target: u32,
     target_n: u32,
 ) -> u8
-    ensures { λ r. ⌜ r ≡ groundOf (now (formats .entry)) (now (schema .entry)) (tablesOf (now (lengths .entry)) (now (places .entry)) (now (buffers .entry)) (now (body .entry))) first n target «target_n» ⌝ }
+    ensures { λ r. ⌜ r ≡ groundOf (was formats) (was schema) (tablesOf (was lengths) (was places) (was buffers) (was body)) first n target «target_n» ⌝ }
 {
     let g = columns::column_ground(formats, schema, lengths, places, buffers, body, first, n);
     if g != 0 {
@@ -54,7 +55,7 @@ fn ground_of(
 // Where each of the n nodes of the result comes from.
 fn from_words(formats: &[u8], schema: &[u32], first: u32, n: u32) -> [u64; 32]
     requires { ⌜ n ≤ 32 ⌝ }
-    ensures { λ r. ⌜ r ≡ fromWords (now (formats .entry)) (now (schema .entry)) first n (replicate 32 0) ⌝ }
+    ensures { λ r. ⌜ r ≡ fromWords (was formats) (was schema) first n (replicate 32 0) ⌝ }
 {
     let mut from = [0u64; 32];
     width_walks::write_from(formats, schema, first as usize, n as usize, &mut from);
@@ -74,7 +75,7 @@ fn words_of(
     words: &mut [u64; result_plan::NODE_WORDS],
 )
     requires { ⌜ (n ≤ 32) × Comes (tables (now lengths) (now places) (now body)) first n (fromWords (now formats) (now schema) first n (replicate 32 0)) ⌝ }
-    ensures { λ _. ⌜ now (words .exit) ≡ wordsOf (now (formats .entry)) (now (schema .entry)) (tables (now (lengths .entry)) (now (places .entry)) (now (body .entry))) first n target ⌝ }
+    ensures { λ _. ⌜ left words ≡ wordsOf (was formats) (was schema) (tables (was lengths) (was places) (was body)) first n target ⌝ }
 {
     let from = from_words(formats, schema, first, n);
     result_plan::words_anew(
@@ -108,7 +109,7 @@ pub fn plan_convert(
     plan: &mut [u64],
     counters: &mut [u64],
 ) -> u8
-    ensures { λ r. ⌜ Asks (asked (now (formats .entry)) (now (schema .entry)) (tablesOf (now (lengths .entry)) (now (places .entry)) (now (buffers .entry)) (now (body .entry))) first n target «target_n» (now (plan .entry)) (now (counters .entry))) r (now (plan .exit)) (now (counters .exit)) ⌝ }
+    ensures { λ r. ⌜ Asks (asked (was formats) (was schema) (lentTables lengths places buffers body) first n target «target_n» (was plan) (was counters)) r (left plan) (left counters) ⌝ }
 {
     let g = ground_of(
         formats,
@@ -189,8 +190,8 @@ fn make(
     requires { ⌜ (length (now plan) ≡ 872) × (length (now counters) ≡ 96) × (n ≤ 32) ⌝ }
     requires { ⌜ ((buffers : List ℕ) × (columnGround (now formats) (now schema) (tablesOf (now lengths) (now places) buffers (now body)) first n ≡ 0)) ⌝ }
     requires { ⌜ isTarget (now formats) (now schema) first n target n ≡ true ⌝ }
-    ensures { λ _. ⌜ now (plan .exit) ≡ planBy (now (words .entry)) n 0 ⌝ }
-    ensures { λ r. ⌜ ((buffers : List ℕ) → Did (planBy (now (words .entry)) n 0) (now (parts .entry)) true (walkBy (now (formats .entry)) (now (schema .entry)) (tablesOf (now (lengths .entry)) (now (places .entry)) buffers (now (body .entry))) first n target (planBy (now (words .entry)) n 0)) (now (room .entry)) r (now (counters .exit)) (now (room .exit))) ⌝ }
+    ensures { λ _. ⌜ left plan ≡ planBy (was words) n 0 ⌝ }
+    ensures { λ r. let p = planBy (was words) n 0 in ⌜ ((buffers : List ℕ) → Did p (was parts) true (walkBy (was formats) (was schema) (tablesOf (was lengths) (was places) buffers (was body)) first n target p) (was room) r (left counters) (left room)) ⌝ }
 {
     result_plan::plan_by(words, n as usize, 0, plan);
     let mut tally = [0u64; plan_words::COUNTERS];
@@ -231,7 +232,7 @@ pub fn convert(
     counters: &mut [u64],
     room: &mut [u8],
 ) -> u8
-    ensures { λ r. ⌜ Answers (convert (now (formats .entry)) (now (schema .entry)) (tablesOf (now (lengths .entry)) (now (places .entry)) (now (buffers .entry)) (now (body .entry))) first n target «target_n» (now (parts .entry)) (now (plan .entry)) (now (counters .entry)) (now (room .entry))) r (now (plan .exit)) (now (counters .exit)) (now (room .exit)) ⌝ }
+    ensures { λ r. ⌜ Makes (convert (was formats) (was schema) (lentTables lengths places buffers body) first n target «target_n» (was parts)) plan counters room r ⌝ }
 {
     if columns::CEILING < room.len() {
         return 9;
