@@ -1,19 +1,19 @@
 -- The entries in use, copied run by run: the walk goes with the model's copies, which are never refused. Assumes nothing.
-use mathlib.Core.Path.{_≡_, sym, ap, subst, _∙_}
-use mathlib.Core.Bool.{true, false}
+use mathlib.Core.Path.{_≡_, refl, sym, ap, subst, _∙_}
+use mathlib.Core.Bool.{Bool, true, false, not}
 use mathlib.Core.List.{List}
 use Prim.Native.Nat.{ℕ, zero, suc, _+_, _-_, _≤_, _<_, min, max}
 use native.Mathlib.Omega.{arith}
 use lib.ListN.{length}
-use lib.Dec.{ltb}
-use borrow.Author.Tests.{ne-eqb}
+use lib.Dec.{ltb, eqb}
+use borrow.Author.Tests.{ne-eqb, eqb-true, eqb-false, lt-ltb, le-ltb}
 use Rattle.columnar.specs.Types.{Plain, tPlain}
 use Rattle.columnar.specs.Formed.{FormedPlain}
 use Rattle.columnar.specs.Array.{Array, Obeys, nullCount}
 use Rattle.columnar.specs.Plain.{PlainBody, PlainRule}
 use Rattle.model.specs.Try.{Try, done}
-use Rattle.model.specs.Mutable.{Mutable, extendNode}
-use Rattle.model.specs.Primitive.{plainExtend}
+use Rattle.model.specs.Mutable.{Mutable, extendNode, startNode}
+use Rattle.model.specs.Primitive.{plainExtend, plainStart}
 use Rattle.model.proofs.CutTries.{done-is}
 use Rattle.model.proofs.Law.{Fine}
 use Rattle.model.proofs.Nodes.{kindOf}
@@ -36,6 +36,13 @@ use Rattle.reclaim.specs.used_entries.Keys.{used}
 use Rattle.reclaim.specs.reclaim_walk.Walk.{keysOf, runOf, copyRun, copyRuns, copyBlocks}
 use Rattle.reclaim.proofs.reclaim_walk.Runs.{runs-open, blocks-open}
 use Rattle.reclaim.proofs.Runs.{stretch, order, order-fine, each-cut, whole-run, run-within, run-those}
+
+some-null : (n : ℕ) → not (eqb n 0) ≡ ltb 0 n
+some-null n = go (eqb n 0) refl
+  where
+    go : (b : Bool) → eqb n 0 ≡ b → not b ≡ ltb 0 n
+    go true e = sym (le-ltb 0 n (omega (arith, eqb-true n 0 e)))
+    go false e = sym (lt-ltb 0 n (omega (arith, eqb-false n 0 e)))
 
 -- the model is done, so the walk is
 pub goes-out : {A : Type 0} {μ : Memory} {Q : A → List ℕ → Memory → Type 0} {t : Try A} {o : Out} → Goes μ Q t o → (x : A) → t ≡ done x → Quiet μ (Q x) o
@@ -146,7 +153,7 @@ module _ (y : Join) (p : Plain) (v : Array (PlainBody p)) (source-is : y .source
     pub begin : length c ≡ 96 → Fresh (y .plan) c μ 1 → keepsOf (y .plan) 1 ≡ flag (ltb 0 (nullCount v)) → Copied c μ 0 (freshNode p v) c μ
     begin long f e =
         record {
-          fine = start-plain p false 1 vs formed;
+          fine = subst (λ (b : Bool). FineEntries (startNode b (plainStart p))) (some-null (nullCount v)) (start-plain p false 1 vs formed);
           few = omega arith;
           holds = start-values (y .plan) c μ p 1 (ltb 0 (nullCount v)) worded f e;
           kept = kept-refl 1 2 c μ;

@@ -15,6 +15,7 @@ use Rattle.width_loop.proofs.Here.{few, rule-as, string-kinds, view-kin
 use borrow.Author.Needs.{needs}
 use Rattle.width_loop.proofs.dispatch.walk_data.Statement.{statement}
 use Rattle.width_loop.proofs.dispatch.walk_data.Tie as tie
+use Rattle.array_data.specs.Typed.{kindIn}
 
 code-of-requires : tie.Need-code-of-requires
 code-of-requires c κs =
@@ -83,7 +84,7 @@ returns-3 c =
     let z = c .before .before .before .before .before .before .before .before .before .before .before .before .before .before .before .before .before .before .before .before .pre in
     let e = view-kinds (a .formats .now) (a .schema .now) (a .lengths .now) (a .places .now) (a .body .now) (a .first) (a .count) (a .target) (z .accepted) (a .i) (z .is-node) (told isView _ (c .before .before .before .before .before .before .before .before .before .before .before .code-of .ensures) (c .before .before .before .before .before .before .is-view .ensures) (c .before .before .before .before .before .if3 .taken)) in
     let f = view-here (column (a .lengths .now) (a .places .now) (z .accepted .buffers) (a .body .now) (a .first)) (a .i) (a .s) (a .n) (z .above) (z .below) (rule-as (a .formats .now) (a .schema .now) (a .lengths .now) (a .places .now) (a .body .now) (a .first) (a .count) (a .target) (z .accepted) (a .i) (z .is-node) viewNode e) in
-    ((λ buffers. by-kinds (a .formats .now) (a .schema .now) (a .lengths .now) (a .places .now) buffers (a .body .now) (a .plan .now) (a .first) (a .count) (a .target) (a .i) (a .s) (a .n) (a .parts .now) (a .write) (a .room .now) (a .counters .now) e refl (view-as (a .plan .now) (a .parts .now) (a .write) (a .room .now) (column (a .lengths .now) (a .places .now) buffers (a .body .now) (a .first)) (a .i) (a .s) (a .n) (a .counters .now) (treeOf (a .formats .now) (a .schema .now) (a .first) (a .count)) (treeOf (a .formats .now) (a .schema .now) (a .target) (a .count)) (ok (validOf (column (a .lengths .now) (a .places .now) buffers (a .body .now) (a .first)) (a .i))) ((treeOf (a .formats .now) (a .schema .now) (a .target) (a .count)) .kind (a .i)) (f .0) (f .1) (c .before .before .before .before .place-at .ensures) (c .before .before .put-slots .ensures))), λ buffers q. settled-by (a .formats .now) (a .schema .now) (a .lengths .now) (a .places .now) buffers (a .body .now) (a .plan .now) (a .first) (a .count) (a .target) (a .i) (a .s) (a .n) (a .ranges .now) e refl)
+    ((λ buffers. by-kinds (a .formats .now) (a .schema .now) (a .lengths .now) (a .places .now) buffers (a .body .now) (a .plan .now) (a .first) (a .count) (a .target) (a .i) (a .s) (a .n) (a .parts .now) (a .write) (a .room .now) (a .counters .now) e refl (view-as (a .plan .now) (a .parts .now) (a .write) (a .room .now) (column (a .lengths .now) (a .places .now) buffers (a .body .now) (a .first)) (a .i) (a .s) (a .n) (a .counters .now) (treeOf (a .formats .now) (a .schema .now) (a .first) (a .count)) (treeOf (a .formats .now) (a .schema .now) (a .target) (a .count)) (ok (validOf (column (a .lengths .now) (a .places .now) buffers (a .body .now) (a .first)) (a .i))) (kindIn (treeOf (a .formats .now) (a .schema .now) (a .target) (a .count)) (a .i)) (f .0) (f .1) (c .before .before .before .before .place-at .ensures) (c .before .before .put-slots .ensures))), λ buffers q. settled-by (a .formats .now) (a .schema .now) (a .lengths .now) (a .places .now) buffers (a .body .now) (a .plan .now) (a .first) (a .count) (a .target) (a .i) (a .s) (a .n) (a .ranges .now) e refl)
 
 nested-node-requires : tie.Need-nested-node-requires
 nested-node-requires c κs =

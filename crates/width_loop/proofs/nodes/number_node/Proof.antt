@@ -20,6 +20,7 @@ use Rattle.width_loop.proofs.Own.{fixed-as}
 use borrow.Author.Needs.{needs}
 use Rattle.width_loop.proofs.nodes.number_node.Statement.{statement}
 use Rattle.width_loop.proofs.nodes.number_node.Tie as tie
+use Rattle.array_data.specs.Typed.{kindIn}
 
 width-at-requires : tie.Need-width-at-requires
 width-at-requires c κs =
@@ -65,7 +66,7 @@ returns c =
     let e = c .before .before .before .before .before .before .before .width-at .ensures ∙ sym (number-wide (codeOf (a .formats .now) (a .schema .now) (a .first) (a .i)) (c .before .before .before .before .before .before .before .before .before .before .before .before .before .before .before .before .pre .1)) in
     let d = sym (c .before .before .before .before .before .before .dictionary-of .ensures) ∙ c .before .before .before .before .before .if1 .taken in
     let f = fixed-here (column (a .lengths .now) (a .places .now) (z .accepted .buffers) (a .body .now) (a .first)) (a .i) (a .s) (a .n) (z .above) (z .below) m (rule-as (a .formats .now) (a .schema .now) (a .lengths .now) (a .places .now) (a .body .now) (a .first) k (a .target) (z .accepted) (a .i) (z .is-node) (fixedNode m) (fixed-kinds (a .formats .now) (a .schema .now) (a .lengths .now) (a .places .now) (a .body .now) (a .first) k (a .target) (z .accepted) (a .i) (z .is-node) (c .before .before .before .before .before .before .before .before .before .before .before .before .before .before .before .before .pre .1) d)) in
-    ((λ buffers c2 count. by-kinds (a .formats .now) (a .schema .now) (a .lengths .now) (a .places .now) buffers (a .body .now) (a .plan .now) (a .first) count (a .target) (a .i) (a .s) (a .n) (a .parts .now) (a .write) (a .room .now) c2 (fixed-kinds (a .formats .now) (a .schema .now) (a .lengths .now) (a .places .now) (a .body .now) (a .first) k (a .target) (z .accepted) (a .i) (z .is-node) (c .before .before .before .before .before .before .before .before .before .before .before .before .before .before .before .before .pre .1) d) refl (fixed-as (a .plan .now) (a .parts .now) (a .write) (a .room .now) (column (a .lengths .now) (a .places .now) buffers (a .body .now) (a .first)) (a .i) (a .s) (a .n) c2 (treeOf (a .formats .now) (a .schema .now) (a .first) count) (treeOf (a .formats .now) (a .schema .now) (a .target) count) (ok (validOf (column (a .lengths .now) (a .places .now) buffers (a .body .now) (a .first)) (a .i))) ((treeOf (a .formats .now) (a .schema .now) (a .target) count) .kind (a .i)) m e (f .0) (f .1) (c .before .before .before .before .place-at .ensures) (c .before .before .put-slots .ensures))), λ buffers count y. settled-by (a .formats .now) (a .schema .now) (a .lengths .now) (a .places .now) buffers (a .body .now) (a .plan .now) (a .first) count (a .target) (a .i) (a .s) (a .n) (a .ranges .now) (fixed-kinds (a .formats .now) (a .schema .now) (a .lengths .now) (a .places .now) (a .body .now) (a .first) k (a .target) (z .accepted) (a .i) (z .is-node) (c .before .before .before .before .before .before .before .before .before .before .before .before .before .before .before .before .pre .1) d) refl)
+    ((λ buffers c2 count. by-kinds (a .formats .now) (a .schema .now) (a .lengths .now) (a .places .now) buffers (a .body .now) (a .plan .now) (a .first) count (a .target) (a .i) (a .s) (a .n) (a .parts .now) (a .write) (a .room .now) c2 (fixed-kinds (a .formats .now) (a .schema .now) (a .lengths .now) (a .places .now) (a .body .now) (a .first) k (a .target) (z .accepted) (a .i) (z .is-node) (c .before .before .before .before .before .before .before .before .before .before .before .before .before .before .before .before .pre .1) d) refl (fixed-as (a .plan .now) (a .parts .now) (a .write) (a .room .now) (column (a .lengths .now) (a .places .now) buffers (a .body .now) (a .first)) (a .i) (a .s) (a .n) c2 (treeOf (a .formats .now) (a .schema .now) (a .first) count) (treeOf (a .formats .now) (a .schema .now) (a .target) count) (ok (validOf (column (a .lengths .now) (a .places .now) buffers (a .body .now) (a .first)) (a .i))) (kindIn (treeOf (a .formats .now) (a .schema .now) (a .target) count) (a .i)) m e (f .0) (f .1) (c .before .before .before .before .place-at .ensures) (c .before .before .put-slots .ensures))), λ buffers count y. settled-by (a .formats .now) (a .schema .now) (a .lengths .now) (a .places .now) buffers (a .body .now) (a .plan .now) (a .first) count (a .target) (a .i) (a .s) (a .n) (a .ranges .now) (fixed-kinds (a .formats .now) (a .schema .now) (a .lengths .now) (a .places .now) (a .body .now) (a .first) k (a .target) (z .accepted) (a .i) (z .is-node) (c .before .before .before .before .before .before .before .before .before .before .before .before .before .before .before .before .pre .1) d) refl)
 
 code-of-requires : tie.Need-code-of-requires
 code-of-requires c κs =

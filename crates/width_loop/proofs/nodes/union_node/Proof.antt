@@ -7,7 +7,7 @@ use Rattle.columnar.specs.Array.{ok}
 use Rattle.schema.specs.Tree.{idsOf}
 use Rattle.array_data.specs.Tables.{validOf}
 use Rattle.array_data.specs.NodeKinds.{sparseNode, denseNode}
-use Rattle.array_data.specs.Typed.{nodeOf}
+use Rattle.array_data.specs.Typed.{nodeOf, kindIn}
 use Rattle.array_data.specs.entries.Entries.{column}
 use Rattle.array_data.specs.type_tree.Lent.{treeOf}
 use Rattle.array_data.proofs.type_tree.Shaped.{at-union}
@@ -59,7 +59,7 @@ returns c =
     let z = c .before .before .before .before .before .before .before .before .before .before .before .before .before .before .before .before .before .pre .0 .1 in
     let e = (at-union (a .formats .now) (a .schema .now) (a .first) (a .i) (c .before .before .before .before .before .before .before .before .before .before .before .before .before .before .before .before .before .pre .1) ∙ ap (λ b. unionKind b (idsOr (idsOf (a .formats .now) (a .schema .now) (a .first) (a .i)))) (ap (λ c2. eqb c2 21) (sym (c .before .before .before .before .before .before .before .code-of .ensures)) ∙ sym (c .before .before .before .before .before .before .is-sparse .ensures) ∙ c .before .before .before .before .before .if1 .taken)) in
     let b = fields-below (a .formats .now) (a .schema .now) (a .lengths .now) (a .places .now) (a .body .now) (a .first) k y (z .accepted) (a .i) (z .is-node) true (idsOr (idsOf (a .formats .now) (a .schema .now) (a .first) (a .i))) e in
-    ((λ buffers c2 target. by-kinds (a .formats .now) (a .schema .now) (a .lengths .now) (a .places .now) buffers (a .body .now) (a .plan .now) (a .first) (a .count) target (a .i) (a .s) (a .n) (a .parts .now) (a .write) (a .room .now) c2 e refl (c .before .before .walk-sparse .ensures .0 (treeOf (a .formats .now) (a .schema .now) (a .first) (a .count)) (treeOf (a .formats .now) (a .schema .now) target (a .count)) ((treeOf (a .formats .now) (a .schema .now) target (a .count)) .kind (a .i)) (idsOr (idsOf (a .formats .now) (a .schema .now) (a .first) (a .i))) (ok (validOf (column (a .lengths .now) (a .places .now) buffers (a .body .now) (a .first)) (a .i))) c2)), λ buffers target. settled-by (a .formats .now) (a .schema .now) (a .lengths .now) (a .places .now) buffers (a .body .now) (a .plan .now) (a .first) (a .count) target (a .i) (a .s) (a .n) (a .ranges .now) e (c .before .before .walk-sparse .ensures .1 (a .formats .now) buffers (idsOr (idsOf (a .formats .now) (a .schema .now) (a .first) (a .i))) (treeOf (a .formats .now) (a .schema .now) target (a .count)) (sym (b .0) ∙ sym (c .before .before .before .before .before .before .before .before .below-of .ensures .0))))
+    ((λ buffers c2 target. by-kinds (a .formats .now) (a .schema .now) (a .lengths .now) (a .places .now) buffers (a .body .now) (a .plan .now) (a .first) (a .count) target (a .i) (a .s) (a .n) (a .parts .now) (a .write) (a .room .now) c2 e refl (c .before .before .walk-sparse .ensures .0 (treeOf (a .formats .now) (a .schema .now) (a .first) (a .count)) (treeOf (a .formats .now) (a .schema .now) target (a .count)) (kindIn (treeOf (a .formats .now) (a .schema .now) target (a .count)) (a .i)) (idsOr (idsOf (a .formats .now) (a .schema .now) (a .first) (a .i))) (ok (validOf (column (a .lengths .now) (a .places .now) buffers (a .body .now) (a .first)) (a .i))) c2)), λ buffers target. settled-by (a .formats .now) (a .schema .now) (a .lengths .now) (a .places .now) buffers (a .body .now) (a .plan .now) (a .first) (a .count) target (a .i) (a .s) (a .n) (a .ranges .now) e (c .before .before .walk-sparse .ensures .1 (a .formats .now) buffers (idsOr (idsOf (a .formats .now) (a .schema .now) (a .first) (a .i))) (treeOf (a .formats .now) (a .schema .now) target (a .count)) (sym (b .0) ∙ sym (c .before .before .before .before .before .before .before .before .below-of .ensures .0))))
 
 walk-dense-requires : tie.Need-walk-dense-requires
 walk-dense-requires c κs =
@@ -83,7 +83,7 @@ returns-2 c =
     let z = c .before .before .before .before .before .before .before .before .before .before .before .before .before .before .before .before .before .pre .0 .1 in
     let e = (at-union (a .formats .now) (a .schema .now) (a .first) (a .i) (c .before .before .before .before .before .before .before .before .before .before .before .before .before .before .before .before .before .pre .1) ∙ ap (λ b. unionKind b (idsOr (idsOf (a .formats .now) (a .schema .now) (a .first) (a .i)))) (ap (λ c2. eqb c2 21) (sym (c .before .before .before .before .before .before .before .code-of .ensures)) ∙ sym (c .before .before .before .before .before .before .is-sparse .ensures) ∙ c .before .before .before .before .before .if1 .left)) in
     let b = fields-below (a .formats .now) (a .schema .now) (a .lengths .now) (a .places .now) (a .body .now) (a .first) k y (z .accepted) (a .i) (z .is-node) false (idsOr (idsOf (a .formats .now) (a .schema .now) (a .first) (a .i))) e in
-    ((λ buffers c2 target. by-kinds (a .formats .now) (a .schema .now) (a .lengths .now) (a .places .now) buffers (a .body .now) (a .plan .now) (a .first) (a .count) target (a .i) (a .s) (a .n) (a .parts .now) (a .write) (a .room .now) c2 e refl (c .before .before .walk-dense .ensures .0 (treeOf (a .formats .now) (a .schema .now) (a .first) (a .count)) (treeOf (a .formats .now) (a .schema .now) target (a .count)) ((treeOf (a .formats .now) (a .schema .now) target (a .count)) .kind (a .i)) (idsOr (idsOf (a .formats .now) (a .schema .now) (a .first) (a .i))) (ok (validOf (column (a .lengths .now) (a .places .now) buffers (a .body .now) (a .first)) (a .i))) c2)), λ buffers target. settled-by (a .formats .now) (a .schema .now) (a .lengths .now) (a .places .now) buffers (a .body .now) (a .plan .now) (a .first) (a .count) target (a .i) (a .s) (a .n) (a .ranges .now) e (c .before .before .walk-dense .ensures .1 (a .formats .now) buffers (idsOr (idsOf (a .formats .now) (a .schema .now) (a .first) (a .i))) (treeOf (a .formats .now) (a .schema .now) target (a .count)) (sym (b .0) ∙ sym (c .before .before .before .before .before .before .before .before .below-of .ensures .0))))
+    ((λ buffers c2 target. by-kinds (a .formats .now) (a .schema .now) (a .lengths .now) (a .places .now) buffers (a .body .now) (a .plan .now) (a .first) (a .count) target (a .i) (a .s) (a .n) (a .parts .now) (a .write) (a .room .now) c2 e refl (c .before .before .walk-dense .ensures .0 (treeOf (a .formats .now) (a .schema .now) (a .first) (a .count)) (treeOf (a .formats .now) (a .schema .now) target (a .count)) (kindIn (treeOf (a .formats .now) (a .schema .now) target (a .count)) (a .i)) (idsOr (idsOf (a .formats .now) (a .schema .now) (a .first) (a .i))) (ok (validOf (column (a .lengths .now) (a .places .now) buffers (a .body .now) (a .first)) (a .i))) c2)), λ buffers target. settled-by (a .formats .now) (a .schema .now) (a .lengths .now) (a .places .now) buffers (a .body .now) (a .plan .now) (a .first) (a .count) target (a .i) (a .s) (a .n) (a .ranges .now) e (c .before .before .walk-dense .ensures .1 (a .formats .now) buffers (idsOr (idsOf (a .formats .now) (a .schema .now) (a .first) (a .i))) (treeOf (a .formats .now) (a .schema .now) target (a .count)) (sym (b .0) ∙ sym (c .before .before .before .before .before .before .before .before .below-of .ensures .0))))
 
 pub union-node-spec : {M : Type 1} → statement M
 union-node-spec = tie.close (tie.spec below-of-requires code-of-requires is-sparse-requires walk-sparse-requires same-length returns walk-dense-requires same-length-2 returns-2)
