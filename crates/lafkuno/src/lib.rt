@@ -12,7 +12,7 @@ ghost use Rattle.refinement.specs.opening.Open.{opening};
 ghost use Rattle.refinement.specs.opening.Ask.{asked, openMeasure};
 ghost use Rattle.refinement.specs.finishing.Finish.{buffersBefore, finishing};
 ghost use Rattle.with_capacities.specs.Answer as Opened;
-ghost use Rattle.with_capacities.specs.Answer.{Answers, Plans};
+ghost use Rattle.with_capacities.specs.Answer.{Plans};
 ghost use Rattle.transform.specs.Answer.{lent, Answers};
 ghost use Rattle.into_builder.specs.Answer as Finished;
 ghost use Rattle.measure.specs.Answer.{Measures};
