@@ -9,7 +9,8 @@ use lib.Dec.{eqb}
 use Rattle.columnar.specs.Row.{seg}
 use Rattle.columnar.specs.Array.{ok}
 use Rattle.array_data.specs.Tables.{Tables, lengthOf, offsetOf, validOf}
-use Rattle.array_data.specs.Typed.{NodeKind, fixedNode, stringNode, viewNode, listViewNode, listNode, sparseNode, denseNode, runEndNode, dictionaryNode, Tree, childNode}
+use Rattle.array_data.specs.NodeKinds.{NodeKind, fixedNode, stringNode, viewNode, listViewNode, listNode, sparseNode, denseNode, runEndNode, dictionaryNode}
+use Rattle.array_data.specs.Typed.{Tree, childNode, kindIn}
 use Rattle.walk.specs.State.{keepsOf, addRows}
 use Rattle.walk.specs.Log.{mask, done, wrote, next}
 use Rattle.refinement.specs.walk_is_model.Holds.{flag}
@@ -34,7 +35,7 @@ module _ (t t′ : Tree) (x : Tables) (p q : List ℕ) where
 
   settle-same : (i : ℕ) (rs : List ℕ) → settle t t′ x p i rs ≡ settle t t′ x q i rs
   unfolding settle
-  settle-same i rs = settles-same (t .kind i) i (offsetOf x i + fromIn rs i) (manyIn rs i) rs
+  settle-same i rs = settles-same (kindIn t i) i (offsetOf x i + fromIn rs i) (manyIn rs i) rs
 
   own-same : (k k′ : NodeKind) (i : ℕ) (okay : ℕ → Bool) (s n : ℕ) (c : List ℕ) → ownAs t t′ x p k k′ i okay s n c ≡ ownAs t t′ x q k k′ i okay s n c
   own-same (fixedNode m) k′ i okay s n c = refl
@@ -56,7 +57,7 @@ module _ (t t′ : Tree) (x : Tables) (p q : List ℕ) where
     unfolding ownWalk
     walk-same i l a n c =
         ap₂ next (bits-same i l (ok (validOf x i)) (offsetOf x i + a) n c)
-        (fun-ext (λ c1. own-same (t .kind i) (t′ .kind i) i (ok (validOf x i)) (offsetOf x i + a) n (addRows i n c1)))
+        (fun-ext (λ c1. own-same (kindIn t i) (kindIn t′ i) i (ok (validOf x i)) (offsetOf x i + a) n (addRows i n c1)))
 
     turn-same : (i : ℕ) → i < 32 → (rs c : List ℕ) → turn t t′ x p i rs c ≡ turn t t′ x q i rs c
     unfolding turn
