@@ -17,7 +17,7 @@ use Rattle.batch.proofs.Tally.{Counts, tally, tally-else, tally-swap}
 use Rattle.batch.proofs.Stretches.{and-left, and-right, Cuts}
 use Rattle.batch.proofs.Leaves.{maskZeros}
 use Rattle.batch.proofs.LeafNode.{leaf-data}
-use Rattle.batch.proofs.LeafCuts.{after, Range, good, node-was, node-goes, after-counters, leaf-cuts}
+use Rattle.batch.proofs.LeafCuts.{after, Range, good, node-was, node-goes, after-counters, leaf-step}
 
 module _ (x : Join) (child : Walk) where
   abbrev kid : ℕ → ℕ → ℕ → List ℕ → Out
@@ -59,7 +59,7 @@ module _ (x : Join) (child : Walk) where
 
     module _ (k : ℕ) (leaf : Leaf k) (empty : (c : List ℕ) → Counts c → Leaves (kid k 0 0 c) c) where
       step-counters : (a n : ℕ) (c d : List ℕ) → Counts c → Leaves (kid k a n c) d → Counts d
-      step-counters a n c d f l = leaf-cuts x k leaf child .step a n c d f l .0
+      step-counters a n c d f l = leaf-step x k leaf child a n c d f l .0
 
       -- a walk at another node may go before a child's rows
       pub rows-swap : (h : ℕ) → Leaf h → (h ≡ k → ⊥) → (b m n r : ℕ) (c d e : List ℕ) → Counts c → Leaves (each (ofChild k) n r c) d → Leaves (kid h b m d) e
@@ -109,5 +109,5 @@ module _ (x : Join) (child : Walk) where
                 let ne = eqb-false (home r) k b in
                 let q = leafs r (omega arith) a ne in
                 let t = rows-swap (home r) q ne (pos r) 1 n (suc r) c d _ f m one2 in
-                let f1 = leaf-cuts x (home r) q child .step (pos r) 1 c _ f (t .0) .0 in
+                let f1 = leaf-step x (home r) q child (pos r) 1 c _ f (t .0) .0 in
                 rw a (leaves-next (λ z. each (ofLeft left) n (suc r) z) (t .0) (ih _ _ e f1 (t .1) more2))

@@ -20,7 +20,7 @@ use Rattle.batch.specs.Dense.{home, takes, takesAt, landsAt, batchFields
 use Rattle.batch.proofs.Ends.{Leaves, leaves-own, leaves-done, leaves-wrote, leaves-need, leaves-found, leaves-next, need-was, need-rest, wrote-rest, next-start, next-rest}
 use Rattle.batch.proofs.Tally.{Counts}
 use Rattle.batch.proofs.Stretches.{and-left, and-right, Cuts, stretch-meets, stretches-each, stretch-shows}
-use Rattle.batch.proofs.LeafCuts.{good, leaf-cuts}
+use Rattle.batch.proofs.LeafCuts.{good, leaf-step, leaf-cuts}
 use Rattle.batch.proofs.Dense.{pure, ofChild, ofLeft, peel}
 
 module _ (x : Join) (depth i slot N : ℕ) where
@@ -183,7 +183,7 @@ module _ (x : Join) (depth i slot N : ℕ) where
       let t = tests r (omega arith) in
       let h = ltb-true (H r) 32 (and-left _ (ltb (landsAt x (batchLeaf x) i slot c0 r) (half 4)) t) in
       let g = ltb-true (landsAt x (batchLeaf x) i slot c0 r) (half 4) (and-right (ltb (H r) 32) _ t) in
-      let st = leaf-cuts x (H r) (leafs r (omega arith)) kids .step (P r) 1 c (o .counters) f one in
+      let st = leaf-step x (H r) (leafs r (omega arith)) kids (P r) 1 c (o .counters) f one in
       let q = kept (H r) in
       let below : rows c (H r) < half 4 = omega arith in
       leaves-next (λ z. each (denseRow x (copyWalk x (suc depth)) i slot) n (suc r) z)

@@ -17,10 +17,10 @@ use Rattle.batch.proofs.Tally.{Counts, tally, tally-else}
 use Rattle.batch.proofs.Stretches.{and-left, and-right, Cuts}
 use Rattle.batch.proofs.Leaves.{maskZeros}
 use Rattle.batch.proofs.LeafNode.{leaf-data}
-use Rattle.batch.proofs.LeafCuts.{after, Range, node-was, node-goes, after-counters, leaf-cuts}
+use Rattle.batch.proofs.LeafCuts.{after, Range, node-was, node-goes, after-counters}
 use Rattle.batch.proofs.Windows.{within, within-append, AllInside, inside-append}
 use Rattle.batch.proofs.Alike.{Window, within-window, Alike, alike-refl, alike-is, alike-sym, alike-trans, alike-append}
-use Rattle.batch.proofs.LeafLogs.{Roomy, canonOf, canonOf-off, roomy-before, node-alike, node-logs-none}
+use Rattle.batch.proofs.LeafLogs.{Roomy, roomy-like, canonOf, canonOf-off, roomy-before, node-alike, node-logs-none}
 use Rattle.batch.proofs.StretchLogs.{next-log}
 use Rattle.batch.proofs.Dense.{leaf-swap, pure, ofChild, ofLeft, rows-swap}
 
@@ -62,13 +62,7 @@ module _ (x : Join) (M : ℕ) (K : ℕ → ℕ → Type 0) (body : Below 256 (x 
 
   -- the parts of a leaf hold what counters with its rows and bytes say
   pub roomy-as : (k : ℕ) (p : Leaf k) (c d : List ℕ) → rows c k ≡ rows d k → bytes c k ≡ bytes d k → R k p c → R k p d
-  roomy-as k p c d e g h =
-      record {
-        under = rw e at (h .under);
-        ones = (h .ones .0, rw e at (h .ones .1));
-        bits = λ t. (h .bits t .0, rw e at (h .bits t .1));
-        chars = λ t. (h .chars t .0, rw g at (h .chars t .1));
-      }
+  roomy-as k p c d e g h = roomy-like x M K body k p c d e g h
 
   pub left-is : (k : ℕ) (p : Leaf k) (a n : ℕ) (c d : List ℕ) → Counts c → Leaves (kid k a n c) d → d ≡ after x k p a n c
   left-is k p a n c d f l = sym (l .left) ∙ node-goes x k p child a n c f (node-was x k p child a n c f (l .ok)) .left

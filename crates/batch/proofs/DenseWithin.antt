@@ -16,7 +16,7 @@ use Rattle.batch.proofs.Ends.{Leaves, leaves-own, leaves-done, leaves-n
 use Rattle.batch.proofs.Tally.{Counts, tally, tally-rows, tally-bytes, tally-else}
 use Rattle.batch.proofs.Leaves.{maskZeros}
 use Rattle.batch.proofs.LeafNode.{leaf-data}
-use Rattle.batch.proofs.LeafCuts.{after, Range, node-was, node-goes, after-counters, leaf-cuts}
+use Rattle.batch.proofs.LeafCuts.{after, Range, node-was, node-goes, after-counters, leaf-step}
 use Rattle.batch.proofs.Windows.{within, within-append, AllInside, inside-append}
 use Rattle.batch.proofs.Alike.{Window, within-window, Alike, alike-sym}
 use Rattle.batch.proofs.LeafLogs.{Roomy, roomy-before, node-logs-none}
@@ -39,12 +39,12 @@ module _ (x : Join) (M : ℕ) (K : ℕ → ℕ → Type 0) (body : Below 256 (x 
   Agree j c d = (rows c j ≡ rows d j) × (bytes c j ≡ bytes d j)
 
   pub kid-counters : (k : ℕ) (p : Leaf k) (a n : ℕ) (c d : List ℕ) → Counts c → Leaves (kid k a n c) d → Counts d
-  kid-counters k p a n c d f l = leaf-cuts x k p child .step a n c d f l .0
+  kid-counters k p a n c d f l = leaf-step x k p child a n c d f l .0
 
   -- a walk at another node
   pub kid-else : (k : ℕ) (p : Leaf k) (a n : ℕ) (c d : List ℕ) → Counts c → Leaves (kid k a n c) d → (j : ℕ) → (j ≡ k → ⊥) → Agree j d c
   kid-else k p a n c d f l j ne = (
-    leaf-cuts x k p child .step a n c d f l .2 j ne,
+    leaf-step x k p child a n c d f l .2 j ne,
     ap (λ y. bytes y j) (left-is x M K body child k p a n c d f l)
         ∙ tally-else k n (maskZeros x k (offsetOf x k + a) n) (leaf-data x k p .amount (offsetOf x k + a) n) c (3 * j + 2)
         (λ (z : 3 * j + 2 ≡ 3 * k). omega arith, λ (z : 3 * j + 2 ≡ 3 * k + 1). omega arith, λ (z : 3 * j + 2 ≡ 3 * k + 2). ne (omega arith)),

@@ -26,7 +26,7 @@ use Rattle.batch.specs.Dense.{home, takes, takesAt, landsAt, batchFields
 use Rattle.batch.proofs.Ends.{Leaves, leaves-wrote, leaves-need, leaves-found, leaves-next, need-was, need-rest, next-start, next-rest}
 use Rattle.batch.proofs.Tally.{Counts}
 use Rattle.batch.proofs.Stretches.{and-left, and-right}
-use Rattle.batch.proofs.LeafCuts.{leaf-cuts}
+use Rattle.batch.proofs.LeafCuts.{leaf-step}
 use Rattle.batch.proofs.Windows.{span, within, AllInside, inside-append}
 use Rattle.batch.proofs.Alike.{Window, Alike, alike-refl, alike-sym, alike-trans, alike-append}
 use Rattle.batch.proofs.LeafLogs.{Roomy}
@@ -208,7 +208,7 @@ module _ (x : Join) (depth i slot N : ℕ) where
       kept1 : Kept (suc r) c1
       unfolding sumOf
       kept1 k =
-          let st = leaf-cuts x (H r) (leafs r within-n) kids .step (P r) 1 c c1 f one in
+          let st = leaf-step x (H r) (leafs r within-n) kids (P r) 1 c c1 f one in
           kept-next r c c1 k (eqb (H r) k) refl (st .1) (st .2) (kept k)
 
       at-now : rows c (H r) ≡ At r

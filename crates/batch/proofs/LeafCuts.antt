@@ -9,13 +9,14 @@ use lib.ListN.{length, getD}
 use lib.Dec.{leb, ltb, eqb}
 use borrow.Author.Tests.{ltb-true, lt-ltb}
 use Rattle.schema.specs.formats.Code.{isString}
-use Rattle.walk.specs.State.{Join, codeOf, bytesOf, place, rows, bytes, top, grown, offsetOf, far, slotOf}
+use Rattle.walk.specs.State.{Join, codeOf, bytesOf, place, rows, bytes, top, grown, addRows, offsetOf, far, slotOf}
 use Rattle.walk.specs.Log.{Out, need, found, next}
+use Rattle.refinement.proofs.walk_is_model.Counters.{bytes-of-rows}
 use Rattle.walk.specs.Copy.{Walk, copySlots, copyNode, copyWalk}
 use Rattle.batch.specs.Stretch.{neverFalls}
 use Rattle.batch.specs.Batch.{isLeaf, steady, batchLeaf}
 use Rattle.batch.proofs.Ends.{Leaves, leaves-own, leaves-need, leaves-found, leaves-next, need-was, need-is, found-was, found-is}
-use Rattle.batch.proofs.Tally.{Counts, tally, tally-rows, tally-bytes, tally-else, tally-none, tally-twice, tally-counters}
+use Rattle.batch.proofs.Tally.{Counts, tally, tally-rows, tally-bytes, tally-else, tally-none, tally-twice, tally-counters, tally-frame, rows-counters}
 use Rattle.batch.proofs.Stretches.{Cuts}
 use Rattle.batch.proofs.Leaves.{maskZeros, zeros-cut, zeros-no, DataCuts}
 use Rattle.batch.proofs.LeafNode.{st, st-first, leaf-data, Passes, slots-was, slots-goes, passes-first, passes-second, passes-none}
@@ -131,7 +132,7 @@ module _ (x : Join) (k : ℕ) (leaf : isLeaf (codeOf (x .plan) k) ≡ true) wher
         none true = refl
         none false = refl
 
-    leaf-step : (a n : ℕ) (c d : List ℕ) → Counts c → Leaves (kid a n c) d → Counts d × (rows d k ≡ grown (rows c k) n) × ((j : ℕ) → (j ≡ k → ⊥) → rows d j ≡ rows c j)
+    pub leaf-step : (a n : ℕ) (c d : List ℕ) → Counts c → Leaves (kid a n c) d → Counts d × (rows d k ≡ grown (rows c k) n) × ((j : ℕ) → (j ≡ k → ⊥) → rows d j ≡ rows c j)
     leaf-step a n c d f l =
         let r = node-was child a n c f (l .ok) in
         let e : d ≡ after a n c = sym (l .left) ∙ node-goes child a n c f r .left in
@@ -142,6 +143,23 @@ module _ (x : Join) (k : ℕ) (leaf : isLeaf (codeOf (x .plan) k) ≡ true) wher
               (λ (y : 3 * j ≡ 3 * k). h (omega arith), λ (y : 3 * j ≡ 3 * k + 1). omega arith, λ (y : 3 * j ≡ 3 * k + 2). omega arith),
         )
 
+    leaf-frame : (a n j m : ℕ) (c d : List ℕ) → Counts c → j < k → Leaves (kid a n c) d → Leaves (kid a n (addRows j m c)) (addRows j m d)
+    leaf-frame a n j m c d f h l =
+        let r = node-was child a n c f (l .ok) in
+        let s = r .node in
+        let e : d ≡ after a n c = sym (l .left) ∙ node-goes child a n c f r .left in
+        let q : Range a n (bytes (addRows j m c) k) = rw (bytes-of-rows c j m k) r in
+        let g = node-goes child a n (addRows j m c) (rows-counters j m c (omega arith) f) q in
+        let w = tally-frame k j s (omega arith) (λ y. omega arith) n (maskZeros x k (at a) n) (leaf-data x k leaf .amount (at a) n) m c f (after-counters a n c f r) in
+        rw e (record { ok = g .ok; left = g .left ∙ w })
+
     -- A NODE WITHOUT CHILDREN MAY BE CUT
     pub leaf-cuts : Cuts k good (λ a n c. batchLeaf x k a n c) kid
-    leaf-cuts = record { same = leaf-same; cut = leaf-cut; none = leaf-none; step = leaf-step }
+    leaf-cuts =
+        record {
+          same = leaf-same;
+          cut = leaf-cut;
+          none = leaf-none;
+          step = λ a n c d f l. let s = leaf-step a n c d f l in (s .0, s .1, λ j h. s .2 j (λ e. omega arith));
+          frame = leaf-frame;
+        }

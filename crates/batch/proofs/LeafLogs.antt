@@ -55,6 +55,16 @@ module _ (x : Join) (M : ℕ) (K : ℕ → ℕ → Type 0) (body : Below 256 (x 
     pub bits : T ≡ true → K k 0 × (rows c k ≤ 8 * Sp 0)
     pub chars : U ≡ true → K k 2 × (bytes c k ≤ Sp 2)
 
+  -- they hold what counters with the same rows and bytes say
+  pub roomy-like : (c d : List ℕ) → rows c k ≡ rows d k → bytes c k ≡ bytes d k → Roomy c → Roomy d
+  roomy-like c d e g h =
+      record {
+        under = rw e at (h .under);
+        ones = (h .ones .0, rw e at (h .ones .1));
+        bits = λ t. (h .bits t .0, rw e at (h .bits t .1));
+        chars = λ t. (h .chars t .0, rw g at (h .chars t .1));
+      }
+
   abbrev pub canonOf : ℕ → ℕ → List ℕ → Log
   canonOf a n c = canon (x .plan) (x .parts) M K T U k (rows c k) (bitsOf x k (at a) n) (L .base (rows c k)) (L .ones (at a) n (bytes c k)) (bytes c k) (L .chars (at a) n)
 

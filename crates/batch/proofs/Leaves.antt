@@ -5,7 +5,7 @@ use mathlib.Core.List.{List, [], _∷_}
 use Prim.Native.Nat.{ℕ, zero, suc, _+_, _*_, _-_, _≤_, _<_, _^_, _/_}
 use native.Mathlib.Nat.{add-zero, add-assoc, mul-add, mul-le-mul-left, le-refl, le-trans}
 use native.Mathlib.Omega.{arith}
-use lib.ListN.{length, getD, set, replicate}
+use lib.ListN.{length, getD, replicate}
 use lib.Dec.{leb, ltb, eqb}
 use borrow.Author.Tests.{leb-true, le-leb, ltb-true, ltb-false, lt-ltb, le-ltb, eqb-true, eqb-false, eq-eqb, ne-eqb}
 use Rattle.number.specs.Number.{number, entry}
@@ -21,13 +21,8 @@ use Rattle.walk.specs.Log.{Entry, Out, put, mask, fail, done, wrote, need, next
 use Rattle.walk.specs.Leaves.{copyBits, copyMask, putString, putExtended, copyString}
 use Rattle.batch.specs.Stretch.{neverFalls}
 use Rattle.batch.proofs.Ends.{Leaves, leaves-done, leaves-wrote, leaves-need, leaves-next, need-was, need-is}
-use Rattle.batch.proofs.Tally.{Counts}
+use Rattle.batch.proofs.Tally.{Counts, set-same}
 use Rattle.batch.proofs.Stretches.{and-left, and-right}
-
-set-same : (l : List ℕ) (q v : ℕ) → getD l q 0 ≡ v → set l q v ≡ l
-set-same [] q v h = refl
-set-same (y ∷ l) zero v h = ap (λ z. z ∷ l) (sym h)
-set-same (y ∷ l) (suc q) v h = ap (λ z. y ∷ z) (set-same l q v h)
 
 -- more entries need more bytes
 pub more-bytes : (at w p q : ℕ) → p ≤ q → at + w * p ≤ at + w * q

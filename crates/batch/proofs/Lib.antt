@@ -18,6 +18,11 @@ pub mod DenseAnswers
 pub mod ListViews
 pub mod ListLogs
 pub mod ListWrites
+pub mod Nested
+pub mod NestedLogs
+pub mod Chains
+pub mod ChainLogs
+pub mod Answers
 pub mod Rising
 pub mod Owned
 pub mod DenseLogs

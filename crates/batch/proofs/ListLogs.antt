@@ -27,7 +27,7 @@ use Rattle.batch.proofs.Stretches.{and-left, and-right, Cuts}
 use Rattle.batch.proofs.ListViews.{sum-up}
 use Rattle.batch.proofs.Windows.{span, within, within-append, AllInside, inside-append}
 use Rattle.batch.proofs.Alike.{Window, Alike, alike-refl, alike-sym, alike-trans, alike-append}
-use Rattle.batch.proofs.StretchLogs.{CutLogs, next-log, each-before, each-self, each-off, each-log}
+use Rattle.batch.proofs.StretchLogs.{CutLogs, next-log, each-before, each-self, each-log}
 
 -- ---- numbers one behind the other
 
@@ -183,7 +183,7 @@ module _ (x : Join) (M : ℕ) (K : ℕ → ℕ → Type 0) (below child : Walk) 
       f1 = cuts .step (start r) (size r) c c1 f one .0
 
       e1 : rows c1 i ≡ R
-      e1 = cuts .step (start r) (size r) c c1 f one .2 i (λ z. omega arith) ∙ e
+      e1 = cuts .step (start r) (size r) c c1 f one .2 i (omega arith) ∙ e
 
       upto : sumOf size (suc r) ≤ sumOf size (r + suc n)
       upto = let u = sum-up size (suc r) n in let v : suc r + n ≡ r + suc n = omega arith in rw v at u
@@ -270,7 +270,7 @@ module _ (x : Join) (M : ℕ) (K : ℕ → ℕ → Type 0) (below child : Walk) 
       first : Alike (x .plan) (x .parts) M K ((put i 1 P A1 ∷ put i 2 P A2 ∷ I) ++ (put i 1 (P + length A1) B1 ∷ put i 2 (P + length A2) B2 ∷ E)) (put i 1 P (A1 ++ B1) ∷ put i 2 P (A2 ++ B2) ∷ (I ++ E))
       first =
           gather (x .plan) (x .parts) M K i P P A1 B1 A2 B2 I E fit1 fit2 (encoded _) (below-numbers w _ n) (encoded _) (below-numbers w _ n)
-          (λ b k v u. logs .off (start r) (size r) c c1 f one y1 i b (λ z. omega arith) k v u) bothIn
+          (λ b k v u. logs .off (start r) (size r) c c1 f one y1 i b (omega arith) k v u) bothIn
           (inside-append (x .plan) (x .parts) M K (put i 1 P A1 ∷ put i 2 P A2 ∷ I) (put i 1 (P + length A1) B1 ∷ put i 2 (P + length A2) B2 ∷ E) headIn tailIn)
 
       goal-first : Goal n (suc r) c1 ≡ put i 1 (P + length A1) B1 ∷ put i 2 (P + length A2) B2 ∷ E

@@ -2,7 +2,8 @@
 use mathlib.Core.Path.{_≡_, refl, sym, ap, subst, _∙_}
 use mathlib.Core.Bool.{Bool, true, false, cond, _&&_}
 use mathlib.Core.List.{List, [], _∷_, _++_, append-assoc, append-nil}
-use Prim.Native.Nat.{ℕ, zero, suc, _+_, _≤_}
+use Prim.Native.Nat.{ℕ, zero, suc, _+_, _≤_, _<_}
+use Rattle.walk.specs.State.{addRows}
 use native.Mathlib.Omega.{arith}
 use lib.Dec.{leb, eqb}
 use borrow.Author.Tests.{leb-true, eqb-true}
@@ -11,7 +12,7 @@ use Rattle.batch.specs.Stretch.{stretch, stretches}
 use Rattle.batch.proofs.Ends.{Leaves, leaves-own, leaves-next, leaves-done, next-first, next-last, next-start, next-rest, next-is}
 use Rattle.batch.proofs.Tally.{Counts}
 use Rattle.batch.proofs.Stretches.{and-left, and-right, Cuts, row, Meets, stretch-meets}
-use Rattle.batch.proofs.Windows.{AllInside, within, within-append}
+use Rattle.batch.proofs.Windows.{AllInside, within}
 use Rattle.batch.proofs.Alike.{Window, Alike, alike-refl, alike-is, alike-sym, alike-trans, alike-append}
 
 pub next-log : {o : Out} (k : List ℕ → Out) {c : List ℕ} → Leaves o c → next o k .log ≡ o .log ++ k c .log
@@ -20,14 +21,16 @@ next-log k p = ap (λ q. q .log) (next-is k p)
 module _ (plan parts : List ℕ) (M : ℕ) (K : ℕ → ℕ → Type 0) where
   -- the logs of such a child, from counters whose parts hold them
   pub record CutLogs (k : ℕ) (roomy : List ℕ → Type 0) (good : ℕ → ℕ → List ℕ → Type 0) (below kid : ℕ → ℕ → List ℕ → Out) : Type 0 where
-    pub same-log : (a n : ℕ) (c : List ℕ) → Counts c → below a n c .ans ≡ 0 → below a n c .log ≡ kid a n c .log
+    pub same-log : (a n : ℕ) (c : List ℕ) → Counts c → below a n c .ans ≡ 0 → roomy (below a n c .counters) → Alike plan parts M K (below a n c .log) (kid a n c .log)
     pub self : (a n : ℕ) (c d : List ℕ) → Counts c → Leaves (kid a n c) d → roomy d → Alike plan parts M K (kid a n c .log) (kid a n c .log)
     pub before : (a n : ℕ) (c d : List ℕ) → Counts c → Leaves (kid a n c) d → roomy d → roomy c
     pub cut-log : (a m s : ℕ) (c d e : List ℕ) → Counts c → good a (m + s) c → Leaves (kid a (m + s) c) d → Leaves (kid a m c) e → roomy d
         → Alike plan parts M K (kid a (m + s) c .log) (kid a m c .log ++ kid (a + m) s e .log)
     pub none-log : (a m o : ℕ) (c d : List ℕ) → Counts c → Counts d → good a m c → o ≤ a + m → roomy d → Alike plan parts M K (kid o 0 d .log) []
-    pub off : (a n : ℕ) (c d : List ℕ) → Counts c → Leaves (kid a n c) d → roomy d → (i b : ℕ) → (i ≡ k → ⊥) → K i b → (w : List ℕ) → Window plan parts M K i b w
+    pub off : (a n : ℕ) (c d : List ℕ) → Counts c → Leaves (kid a n c) d → roomy d → (i b : ℕ) → i < k → K i b → (w : List ℕ) → Window plan parts M K i b w
         → within i b (kid a n c .log) w ≡ w
+    pub frame-log : (a n j m : ℕ) (c d : List ℕ) → Counts c → j < k → Leaves (kid a n c) d → roomy d → Alike plan parts M K (kid a n c .log) (kid a n (addRows j m c) .log)
+    pub less : (j m : ℕ) (c : List ℕ) → j < k → roomy (addRows j m c) → roomy c
 
   module _ (k : ℕ) (roomy : List ℕ → Type 0) (good : ℕ → ℕ → List ℕ → Type 0) (below kid : ℕ → ℕ → List ℕ → Out)
       (cuts : Cuts k good below kid) (logs : CutLogs k roomy good below kid) (start size : ℕ → ℕ) where
@@ -57,19 +60,6 @@ module _ (plan parts : List ℕ) (M : ℕ) (K : ℕ → ℕ → Type 0) where
         let y = each-before n (suc r) (Row r c .counters) d g q h in
         rw (next-log (λ e. each Row n (suc r) e) p)
         (alike-append plan parts M K (logs .self (start r) (size r) c _ f p y) (each-self n (suc r) (Row r c .counters) d g q h))
-
-    pub each-off : (n r : ℕ) (c d : List ℕ) → Counts c → Leaves (each Row n r c) d → roomy d → (i b : ℕ) → (i ≡ k → ⊥) → K i b → (w : List ℕ) → Window plan parts M K i b w
-        → within i b (each Row n r c .log) w ≡ w
-    unfolding each done within
-    each-off zero r c d f l h i b z y w u = refl
-    each-off (suc n) r c d f l h i b z y w u =
-        let p = next-start (Row r c) (λ e. each Row n (suc r) e) l in
-        let q = next-rest (Row r c) (λ e. each Row n (suc r) e) l in
-        let g = cuts .step (start r) (size r) c _ f p .0 in
-        let v = each-before n (suc r) (Row r c .counters) d g q h in
-        let o = logs .off (start r) (size r) c _ f p v i b z y w u in
-        rw (next-log (λ e. each Row n (suc r) e) p, within-append i b (Row r c .log) (each Row n (suc r) (Row r c .counters) .log) w, o)
-        (each-off n (suc r) (Row r c .counters) d g q h i b z y w u)
 
     pub each-log : (n r : ℕ) (c d : List ℕ) → Leaves (Row r c) d → each Row (suc n) r c .log ≡ Row r c .log ++ each Row n (suc r) d .log
     unfolding each
@@ -149,8 +139,8 @@ module _ (plan parts : List ℕ) (M : ℕ) (K : ℕ → ℕ → Type 0) where
           let y2 : roomy (on (below a m c .counters) .counters) = rw (l .left) y in
           let t = meets (start r) (size r) (below a m c .counters) g (l .ok) in
           let u = logs .before (start r) (size r) (below a m c .counters) _ g (next-start (Row r (below a m c .counters)) More (t .1)) (each-before n (suc r) _ _ (cuts .step (start r) (size r) (below a m c .counters) _ g (next-start (Row r (below a m c .counters)) More (t .1)) .0) (next-rest (Row r (below a m c .counters)) More (t .1)) y2) in
-          rw (next-log on ob, next-log Whole (s .1), logs .same-log a m c f b)
-          (alike-append plan parts M K (logs .self a m c _ f (s .1) u) (ih (start r) (size r) (below a m c .counters) g (l .ok) y2))
+          rw (next-log on ob, next-log Whole (s .1))
+          (alike-append plan parts M K (logs .same-log a m c f b u) (ih (start r) (size r) (below a m c .counters) g (l .ok) y2))
 
       pick : (t u v : Bool) → (eqb (size r) 0 && leb (start r) (a + m)) ≡ t → eqb (start r) (a + m) ≡ u → (eqb m 0 && leb a (start r)) ≡ v
           → (o : Out) → o ≡ cond t (On n (suc r) a m c) (cond u (On n (suc r) a (m + size r) c) (cond v (On n (suc r) (start r) (size r) c) (next (below a m c) (λ d. On n (suc r) (start r) (size r) d))))
@@ -166,7 +156,7 @@ module _ (plan parts : List ℕ) (M : ℕ) (K : ℕ → ℕ → Type 0) where
     unfolding stretch each done
     stretch-writes zero r a m c f h y =
         let s = cuts .same a m c f h in
-        rw (next-log (λ d. each Row zero r d) (s .1), append-nil, logs .same-log a m c f h) (logs .self a m c _ f (s .1) y)
+        rw (next-log (λ d. each Row zero r d) (s .1), append-nil) (logs .same-log a m c f h y)
     stretch-writes (suc n) r a m c f h y =
         pick n r (λ a m c f h y. stretch-writes n (suc r) a m c f h y) a m c f (eqb (size r) 0 && leb (start r) (a + m)) (eqb (start r) (a + m)) (eqb m 0 && leb a (start r)) refl refl refl
         (On (suc n) r a m c) refl h y

@@ -2,11 +2,12 @@
 use mathlib.Core.Path.{_≡_, refl, sym, ap, subst, _∙_}
 use mathlib.Core.Bool.{Bool, true, false, cond, _&&_}
 use mathlib.Core.List.{List}
-use Prim.Native.Nat.{ℕ, zero, suc, _+_, _≤_}
+use Prim.Native.Nat.{ℕ, zero, suc, _+_, _≤_, _<_}
+use native.Mathlib.Nat.{zero-add, add-zero, suc-add}
 use native.Mathlib.Omega.{arith}
 use lib.Dec.{leb, eqb}
 use borrow.Author.Tests.{leb-true, eqb-true}
-use Rattle.walk.specs.State.{rows, grown}
+use Rattle.walk.specs.State.{rows, grown, addRows}
 use Rattle.walk.specs.Log.{Out, next, each, done}
 use Rattle.batch.specs.Stretch.{stretch, stretches}
 use Rattle.batch.proofs.Ends.{Leaves, leaves-own, leaves-next, leaves-done, next-first, next-last, next-start, next-rest}
@@ -21,14 +22,15 @@ and-right true b h = h
 and-right false true h = refl
 and-right false false h = h
 
--- kid: the walk of a copy at one node; below: its walk by stretches; good: what the second says of a range besides
+-- kid: the walk of a copy at node k, which leaves the nodes before it; below: its walk by stretches; good: what the second says of a range besides
 pub record Cuts (k : ℕ) (good : ℕ → ℕ → List ℕ → Type 0) (below kid : ℕ → ℕ → List ℕ → Out) : Type 0 where
   pub same : (a n : ℕ) (c : List ℕ) → Counts c → below a n c .ans ≡ 0 → good a n c × Leaves (kid a n c) (below a n c .counters)
   pub cut : (a m s : ℕ) (c d : List ℕ) → Counts c → good a (m + s) c → Leaves (kid a (m + s) c) d
       → good a m c × Leaves (next (kid a m c) (λ e. kid (a + m) s e)) d
   pub none : (a m o : ℕ) (c d : List ℕ) → Counts c → Counts d → good a m c → o ≤ a + m → good o 0 c × Leaves (kid o 0 d) d
   pub step : (a n : ℕ) (c d : List ℕ) → Counts c → Leaves (kid a n c) d
-      → Counts d × (rows d k ≡ grown (rows c k) n) × ((j : ℕ) → (j ≡ k → ⊥) → rows d j ≡ rows c j)
+      → Counts d × (rows d k ≡ grown (rows c k) n) × ((j : ℕ) → j < k → rows d j ≡ rows c j)
+  pub frame : (a n j m : ℕ) (c d : List ℕ) → Counts c → j < k → Leaves (kid a n c) d → Leaves (kid a n (addRows j m c)) (addRows j m d)
 
 module _ (k : ℕ) (good : ℕ → ℕ → List ℕ → Type 0) (below kid : ℕ → ℕ → List ℕ → Out) (cuts : Cuts k good below kid) (start size : ℕ → ℕ) where
   -- the rows of one row of the parent
@@ -125,3 +127,29 @@ stretch-shows walk start size {P} f (suc n) r a m c h =
     go ih false true v h = ih a (m + size r) c h
     go ih false false true h = ih (start r) (size r) c h
     go ih false false false h = f a m c (next-first (walk a m c) _ h)
+
+-- rows one after the other leave counters, and the rows of the nodes before
+pub each-counters : (k : ℕ) (good : ℕ → ℕ → List ℕ → Type 0) (below kid : ℕ → ℕ → List ℕ → Out) → Cuts k good below kid → (start size : ℕ → ℕ) (n r : ℕ) (c d : List ℕ) → Counts c
+    → Leaves (each (λ r c. kid (start r) (size r) c) n r c) d → Counts d × ((j : ℕ) → j < k → rows d j ≡ rows c j)
+unfolding each done
+each-counters k good below kid cuts start size zero r c d f l = rw (← l .left) (f, λ j h. refl)
+each-counters k good below kid cuts start size (suc n) r c d f l =
+    let o : Out = kid (start r) (size r) c in
+    let on : List ℕ → Out = λ e. each (λ r c. kid (start r) (size r) c) n (suc r) e in
+    let s = cuts .step (start r) (size r) c (o .counters) f (next-start o on l) in
+    let t = each-counters k good below kid cuts start size n (suc r) (o .counters) d (s .0) (next-rest o on l) in
+    (t .0, λ j h. t .1 j h ∙ s .2 j h)
+
+-- m + s rows are m rows and s rows
+pub each-split : (f : ℕ → List ℕ → Out) (m s r : ℕ) (c d : List ℕ) → Leaves (each f (m + s) r c) d
+    → Leaves (each f m r c) (each f m r c .counters) × Leaves (each f s (r + m) (each f m r c .counters)) d
+unfolding each done
+each-split f zero s r c d l = let l2 = rw (zero-add s) at l in (leaves-own refl, rw (add-zero r) l2)
+each-split f (suc m) s r c d l =
+    let e : suc m + s ≡ suc (m + s) = suc-add m s in
+    let on : List ℕ → Out = λ z. each f (m + s) (suc r) z in
+    let l2 : Leaves (next (f r c) on) d = rw e at l in
+    let q = each-split f m s (suc r) (f r c .counters) d (next-rest (f r c) on l2) in
+    let w = leaves-next (λ z. each f m (suc r) z) (next-start (f r c) on l2) (q .0) in
+    let v : r + suc m ≡ suc r + m = omega arith in
+    (leaves-own (w .ok), rw (w .left, v) (q .1))

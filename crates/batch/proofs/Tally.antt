@@ -1,8 +1,8 @@
 -- The three counters of one node. Assumes nothing.
-use mathlib.Core.Path.{_≡_, refl, sym, ap, _∙_}
+use mathlib.Core.Path.{_≡_, refl, sym, ap, subst, _∙_}
 use mathlib.Core.Bool.{Bool, true, false}
-use mathlib.Core.List.{List}
-use Prim.Native.Nat.{ℕ, suc, _+_, _*_, _≤_, _<_, min}
+use mathlib.Core.List.{List, [], _∷_}
+use Prim.Native.Nat.{ℕ, zero, suc, _+_, _*_, _≤_, _<_, min}
 use native.Mathlib.Nat.{add-zero}
 use native.Mathlib.Omega.{arith}
 use lib.ListN.{length, getD, set, length-set}
@@ -33,6 +33,11 @@ at-node k q P a b d e = go (eqb q (3 * k)) refl (eqb q (3 * k + 1)) refl (eqb q 
     go false f true g u h = rw (eqb-true q (3 * k + 1) g) b
     go false f false g true h = rw (eqb-true q (3 * k + 2) h) d
     go false f false g false h = e (eqb-false q (3 * k) f, eqb-false q (3 * k + 1) g, eqb-false q (3 * k + 2) h)
+
+pub set-same : (l : List ℕ) (q v : ℕ) → getD l q 0 ≡ v → set l q v ≡ l
+set-same [] q v h = refl
+set-same (y ∷ l) zero v h = ap (λ z. z ∷ l) (sym h)
+set-same (y ∷ l) (suc q) v h = ap (λ z. y ∷ z) (set-same l q v h)
 
 module _ (k n z d : ℕ) (c : List ℕ) where
   pub tally-long : length (tally k n z d c) ≡ length c
@@ -153,3 +158,41 @@ tally-swap k h a b ne c l n z d m y e =
 
     o2 : Else h (3 * k + 2)
     o2 = (λ (q : 3 * k + 2 ≡ 3 * h). omega arith, λ (q : 3 * k + 2 ≡ 3 * h + 1). omega arith, λ (q : 3 * k + 2 ≡ 3 * h + 2). ne (omega arith))
+
+-- ---- rows alone
+
+pub rows-alone : (j m : ℕ) (c : List ℕ) → Counts c → tally j m 0 0 c ≡ addRows j m c
+unfolding grown
+rows-alone j m c f =
+    let s = f .small (3 * j + 1) in
+    let e : addNulls j 0 c ≡ c = set-same c (3 * j + 1) (grown (nulls c j) 0) (omega arith) in
+    let g : setBytes j (bytes c j + 0) c ≡ c = set-same c (3 * j + 2) (bytes c j + 0) (omega arith) in
+    ap (λ y. addRows j m (setBytes j (bytes c j + 0) y)) e ∙ ap (addRows j m) g
+
+pub rows-counters : (j m : ℕ) (c : List ℕ) → j < 32 → Counts c → Counts (addRows j m c)
+rows-counters j m c h f =
+    let s = f .small (3 * j + 2) in
+    subst Counts (rows-alone j m c f) (tally-counters j m 0 0 c (f .long) h f (omega arith))
+
+pub rows-none : (k : ℕ) (c : List ℕ) → k < 32 → Counts c → addRows k 0 c ≡ c
+rows-none k c h f = sym (rows-alone k 0 c f) ∙ tally-none k h c f
+
+pub rows-twice : (k m s : ℕ) (c : List ℕ) → k < 32 → Counts c → addRows k s (addRows k m c) ≡ addRows k (m + s) c
+rows-twice k m s c h f =
+    sym (rows-alone k s (addRows k m c) (rows-counters k m c h f))
+    ∙ ap (tally k s 0 0) (sym (rows-alone k m c f))
+    ∙ tally-twice k h c f m 0 0 s 0 0
+    ∙ rows-alone k (m + s) c f
+
+-- rows of another node, either first
+pub tally-frame : (k j : ℕ) → k < 32 → j < 32 → (j ≡ k → ⊥) → (n z d m : ℕ) (c : List ℕ) → Counts c → Counts (tally k n z d c)
+    → tally k n z d (addRows j m c) ≡ addRows j m (tally k n z d c)
+tally-frame k j a b ne n z d m c f g =
+    ap (tally k n z d) (sym (rows-alone j m c f)) ∙ tally-swap k j a b ne c (f .long) n z d m 0 0 ∙ rows-alone j m (tally k n z d c) g
+
+pub rows-either : (k j : ℕ) → k < 32 → j < 32 → (j ≡ k → ⊥) → (n m : ℕ) (c : List ℕ) → Counts c → addRows k n (addRows j m c) ≡ addRows j m (addRows k n c)
+rows-either k j a b ne n m c f =
+    let e = rows-alone k n c f in
+    sym (rows-alone k n (addRows j m c) (rows-counters j m c b f))
+    ∙ tally-frame k j a b ne n 0 0 m c f (subst Counts (sym e) (rows-counters k n c a f))
+    ∙ ap (addRows j m) e

@@ -1,5 +1,5 @@
--- An order walked by stretches, for list-views and dense unions of nodes without children; 12 where it does not apply, which says nothing of the order:
--- `copyWalk` stays what an order is. Assumes nothing.
+-- An order walked by stretches, for list-views, also of list-views, down to a node without children, and for dense unions of such nodes; 12 where it does not
+-- apply, which says nothing of the order: `copyWalk` stays what an order is. Assumes nothing.
 use mathlib.Core.Bool.{Bool, true, false, cond, _&&_}
 use mathlib.Core.List.{List}
 use Prim.Native.Nat.{ℕ, zero, suc, _+_, _*_}
@@ -9,7 +9,7 @@ use Rattle.number.specs.Number.{entry}
 use Rattle.columnar.specs.Types.{half}
 use Rattle.schema.specs.formats.Code.{between, isString, isListView}
 use Rattle.utils.specs.Pieces.{numbers}
-use Rattle.walk.specs.State.{Join, codeOf, bytesOf, rows, addRows, place, offsetOf, far, slotOf, rowsIn}
+use Rattle.walk.specs.State.{Join, codeOf, keepsOf, bytesOf, rows, addRows, place, offsetOf, far, slotOf, rowsIn}
 use Rattle.walk.specs.Log.{Out, put, fail, done, wrote, need, found, next}
 use Rattle.walk.specs.Leaves.{copyMask}
 use Rattle.walk.specs.Copy.{Walk, copyWalk, masked}
@@ -43,8 +43,10 @@ module _ (x : Join) where
         (λ c2. next (wrote (put i 2 (rows c2 i * w) (take (w * n) (drop (place x i 5 + w * slot) (x .body)))) c2)
         (λ c3. stretches (λ a m d. child (suc i) a m d) (λ r. entry w (x .body) (place x i 3) (slot + r)) (λ r. entry w (x .body) (place x i 5) (slot + r)) n c3)))))
 
+    -- the children of a dense union have no children
     unfoldable pub batchData : ℕ → ℕ → ℕ → ℕ → List ℕ → Out
-    batchData code i slot n c = cond (isListView code) (batchListView (bytesOf (x .plan) i) i slot n c) (cond (eqb code 22) (batchDense x child i slot n c) (fail 12 c))
+    batchData code i slot n c =
+        cond (isListView code) (batchListView (bytesOf (x .plan) i) i slot n c) (cond (eqb code 22) (batchDense x batchLeaf i slot n c) (fail 12 c))
 
     -- validity, data, and the rows counted
     unfoldable pub batchSlots : ℕ → ℕ → ℕ → List ℕ → Out
@@ -56,6 +58,14 @@ module _ (x : Join) where
     unfoldable pub batchNode : ℕ → ℕ → ℕ → List ℕ → Out
     batchNode i a n c = need (ltb i 32) 12 c (found far (slotOf x i a n) 12 c (λ slot. batchSlots i slot n c))
 
+-- a child's walk: a node without children, or a list-view that keeps no nulls of such a child, at most `depth` list-views down
+unfoldable pub batchBelow : Join → ℕ → Walk
+batchBelow x zero i a n c = batchLeaf x i a n c
+batchBelow x (suc depth) i a n c =
+    cond (isListView (codeOf (x .plan) i))
+    (need (eqb (keepsOf (x .plan) i) 0) 12 c (batchNode x (batchBelow x depth) i a n c))
+    (batchLeaf x i a n c)
+
 -- THE WALK BY STRETCHES of rows a .. a + n - 1 of node i
 unfoldable pub batchWalk : Join → Walk
-batchWalk x i a n c = batchNode x (batchLeaf x) i a n c
+batchWalk x i a n c = batchNode x (batchBelow x 6) i a n c

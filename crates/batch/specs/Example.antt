@@ -1,4 +1,4 @@
--- A sliced list-view of numbers and a sliced dense union, some rows of each copied by stretches. Assumes nothing.
+-- A sliced list-view of numbers, a sliced dense union and a sliced list-view of list-views, some rows of each copied by stretches. Assumes nothing.
 use mathlib.Core.List.{List, [], _∷_, _++_}
 use Prim.Native.Nat.{ℕ}
 use lib.ListN.{replicate}
@@ -48,3 +48,22 @@ unionByRows = comesTo union (copyWalk union 2 0 0 6 (replicate 96 0)) (replicate
 
 abbrev pub unionByStretches : ℕ × List ℕ × List ℕ
 unionByStretches = comesTo union (batchWalk union 0 0 6 (replicate 96 0)) (replicate 60 255)
+
+-- rows 2 2, 0 0, 4 1 and 0 2 of a list-view of list-views are the stretches 2 3 and 0 2, whose rows are 3 3 and, of the second one, 0 1 and 5 2
+abbrev pub nested : Join
+nested =
+    record {
+      plan = (17 ∷ 0 ∷ 3 ∷ 0 ∷ 0 ∷ 0 ∷ 0 ∷ 0 ∷ 17 ∷ 0 ∷ 3 ∷ 0 ∷ 0 ∷ 0 ∷ 2 ∷ 0 ∷ 3 ∷ 0 ∷ 3 ∷ 0 ∷ 0 ∷ 1 ∷ 5 ∷ 0 ∷ []) ++ replicate 841 0 ++ (3 ∷ []);
+      parts = 0 ∷ 16 ∷ 16 ∷ 16 ∷ 32 ∷ 20 ∷ 52 ∷ 20 ∷ 72 ∷ 1 ∷ 73 ∷ 12 ∷ [];
+      lengths = 5 ∷ 1 ∷ 6 ∷ 1 ∷ 9 ∷ 1 ∷ [];
+      places = 0 ∷ 0 ∷ 0 ∷ 0 ∷ 0 ∷ 24 ∷ 0 ∷ 0 ∷ 0 ∷ 0 ∷ 0 ∷ 0 ∷ 48 ∷ 0 ∷ 76 ∷ 0 ∷ 0 ∷ 0 ∷ 1 ∷ 104 ∷ 0 ∷ 106 ∷ 0 ∷ 0 ∷ 0 ∷ 0 ∷ 0 ∷ [];
+      body = 99 ∷ 0 ∷ 0 ∷ 0 ∷ 99 ∷ 0 ∷ 0 ∷ 0 ∷ 2 ∷ 0 ∷ 0 ∷ 0 ∷ 0 ∷ 0 ∷ 0 ∷ 0 ∷ 4 ∷ 0 ∷ 0 ∷ 0 ∷ 0 ∷ 0 ∷ 0 ∷ 0 ∷ 1 ∷ 0 ∷ 0 ∷ 0 ∷ 1 ∷ 0 ∷ 0 ∷ 0 ∷ 2 ∷ 0 ∷ 0 ∷ 0 ∷ 0 ∷ 0 ∷ 0 ∷ 0 ∷ 1 ∷ 0 ∷ 0 ∷ 0 ∷ 2 ∷ 0 ∷ 0 ∷ 0 ∷ 99 ∷ 0 ∷ 0 ∷ 0 ∷ 0 ∷ 0 ∷ 0 ∷ 0 ∷ 5 ∷ 0 ∷ 0 ∷ 0 ∷ 3 ∷ 0 ∷ 0 ∷ 0 ∷ 1 ∷ 0 ∷ 0 ∷ 0 ∷ 5 ∷ 0 ∷ 0 ∷ 0 ∷ 0 ∷ 0 ∷ 0 ∷ 0 ∷ 1 ∷ 0 ∷ 0 ∷ 0 ∷ 1 ∷ 0 ∷ 0 ∷ 0 ∷ 2 ∷ 0 ∷ 0 ∷ 0 ∷ 2 ∷ 0 ∷ 0 ∷ 0 ∷ 0 ∷ 0 ∷ 0 ∷ 0 ∷ 1 ∷ 0 ∷ 0 ∷ 0 ∷ 0 ∷ 0 ∷ 0 ∷ 0 ∷ 110 ∷ 3 ∷ 10 ∷ 0 ∷ 11 ∷ 0 ∷ 12 ∷ 0 ∷ 13 ∷ 0 ∷ 14 ∷ 0 ∷ 15 ∷ 0 ∷ 16 ∷ 0 ∷ 17 ∷ 0 ∷ 18 ∷ 0 ∷ 19 ∷ 0 ∷ [];
+      first = 0;
+      source = 0;
+    }
+
+abbrev pub nestedByRows : ℕ × List ℕ × List ℕ
+nestedByRows = comesTo nested (copyWalk nested 8 0 1 4 (replicate 96 0)) (replicate 85 255)
+
+abbrev pub nestedByStretches : ℕ × List ℕ × List ℕ
+nestedByStretches = comesTo nested (batchWalk nested 0 1 4 (replicate 96 0)) (replicate 85 255)

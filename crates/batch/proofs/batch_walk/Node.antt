@@ -6,26 +6,26 @@ use Prim.Native.Nat.{ℕ, zero, suc, _+_, _*_, _-_, _≤_, _<_, min}
 use native.Mathlib.Omega.{arith}
 use lib.ListN.{length, take, drop}
 use lib.Dec.{leb, ltb, eqb}
-use borrow.Author.Tests.{lt-ltb, le-ltb, eq-eqb, ne-eqb, leb-true, ltb-true, ltb-false, eqb-true, eqb-false}
+use borrow.Author.Tests.{lt-ltb, le-ltb, lt-leb, eq-eqb, ne-eqb, leb-true, ltb-true, ltb-false, eqb-true, eqb-false}
 use Rattle.array_data.proofs.lent_tables.Laws.{no, yes, is-none, is-some}
 use Rattle.number.specs.Number.{entry}
 use Rattle.columnar.specs.Types.{half}
 use Rattle.columnar.specs.Test.{every}
 use Rattle.plan.proofs.parts.Placed.{every-at}
-use Rattle.schema.specs.formats.Code.{isListView}
+use Rattle.schema.specs.formats.Code.{isFixed, isString, isListView}
 use Rattle.utils.specs.Pieces.{numbers}
 use Rattle.walk.specs.State.{Join, codeOf, endOf, keepsOf, bytesOf, rows, addRows, grown, scaled, top, place, far, slotOf, rowsIn}
-use Rattle.walk.specs.Log.{Out, Did, put, applyIf, done, need, found, next}
+use Rattle.walk.specs.Log.{Out, Did, put, applyIf, done, wrote, need, found, next}
 use Rattle.walk.specs.Leaves.{copyMask}
-use Rattle.walk.specs.Copy.{masked}
+use Rattle.walk.specs.Copy.{Walk, masked}
 use Rattle.walk.proofs.Laws.{done-did, need-no, need-ok, found-no, found-ok, next-no, next-ok}
 use Rattle.leaf_walk.proofs.Laws.{wrote-at}
 use Rattle.batch.specs.Stretch.{sumOf, stretches}
 use Rattle.batch.specs.Dense.{batchDense}
-use Rattle.batch.specs.Batch.{owned, batchLeaf, batchListView, batchData, batchSlots, batchNode, batchWalk}
+use Rattle.batch.specs.Batch.{owned, batchLeaf, batchListView, batchData, batchSlots, batchNode, batchBelow, batchWalk}
 use Rattle.batch.proofs.Ends.{need-is}
 use Rattle.batch.proofs.Stretches.{and-left, and-right}
-use Rattle.batch.specs.batch_walk.Plain.{isFlat, isListed, flatBelow, isStretched}
+use Rattle.batch.specs.batch_walk.Plain.{isPlain, isText, isFlat, isListed, flatBelow, isStretched}
 
 -- ---- what a type says
 
@@ -99,7 +99,28 @@ module _ (S : List ℕ) where
     pub child-flat : isFlat S 1 ≡ true
     child-flat = and-right (eqb (keepsOf S 0) 0) _ (and-right (isListView (codeOf S 0)) _ is)
 
+  -- numbers and byte strings are no lists
+  pub flat-leaf : (k : ℕ) → isFlat S k ≡ true → isListView (codeOf S k) ≡ false
+  flat-leaf k h = rw (lt-leb 17 (codeOf S k) (low (isText S k) refl h))
+    where
+      low : (t : Bool) → isText S k ≡ t → cond t true (isPlain S k) ≡ true → codeOf S k < 17
+      low true e h = let g = leb-true (codeOf S k) 14 (and-right (leb 11 (codeOf S k)) _ (and-left (isString (codeOf S k)) _ e)) in omega arith
+      low false e h = let g = leb-true (codeOf S k) 10 (and-right (leb 1 (codeOf S k)) _ (and-left (isFixed (codeOf S k)) _ h)) in omega arith
+
 -- ---- its data
+
+-- by another walk of its child
+pub list-as : (x : Join) (w i slot n : ℕ) (c : List ℕ) (below other : Walk) → _≡_ {A = ℕ → ℕ → List ℕ → Out} (λ a m d. below (suc i) a m d) (λ a m d. other (suc i) a m d)
+    → batchListView x below w i slot n c ≡ batchListView x other w i slot n c
+unfolding batchListView
+list-as x w i slot n c below other e =
+    ap (λ f.
+    need (ltb (suc i) 32 && (owned (x .plan) i && owned (x .plan) (suc i))) 12 c
+    (need (rowsIn x (place x i 3) w slot n && rowsIn x (place x i 5) w slot n) 12 c
+    (need (ltb (rows c (suc i) + sumOf (λ r. entry w (x .body) (place x i 5) (slot + r)) n) (half w)) 6 c
+    (next (wrote (put i 1 (rows c i * w) (numbers w (λ r. rows c (suc i) + sumOf (λ q. entry w (x .body) (place x i 5) (slot + q)) r) n)) c)
+    (λ c2. next (wrote (put i 2 (rows c2 i * w) (take (w * n) (drop (place x i 5 + w * slot) (x .body)))) c2)
+    (λ c3. stretches f (λ r. entry w (x .body) (place x i 3) (slot + r)) (λ r. entry w (x .body) (place x i 5) (slot + r)) n c3)))))) e
 
 pub offset-same : (w v s : ℕ) → half w ≤ top → ltb (grown v s) (half w) ≡ ltb (v + s) (half w)
 unfolding grown
@@ -218,16 +239,31 @@ module _ (x : Join) where
     unfolding next done
     done-next c f = refl
 
-    slots-is : (n : ℕ) (c : List ℕ) (slot : ℕ) → batchSlots x (batchLeaf x) 0 slot n c ≡ next (batchData x (batchLeaf x) C 0 slot n c) (λ c2. done (addRows 0 n c2))
+    below-is : isListed (x .plan) ≡ true → (a m : ℕ) (d : List ℕ) → batchBelow x 6 1 a m d ≡ batchLeaf x 1 a m d
+    unfolding batchBelow
+    below-is l a m d = rw (flat-leaf (x .plan) 1 (child-flat (x .plan) l))
+
+    data-as : (slot n : ℕ) (c : List ℕ) → batchData x (batchBelow x 6) C 0 slot n c ≡ batchData x (batchLeaf x) C 0 slot n c
+    unfolding batchData
+    data-as slot n c = go (eqb C 22) refl
+      where
+        go : (t : Bool) → eqb C 22 ≡ t → batchData x (batchBelow x 6) C 0 slot n c ≡ batchData x (batchLeaf x) C 0 slot n c
+        go true q = rw (eqb-true C 22 q) refl
+        go false q =
+            let l = list-is (x .plan) is refl (eqb-false C 22 q) in
+            rw (listed (x .plan) l) (list-as x W 0 slot n c (batchBelow x 6) (batchLeaf x) (fun-ext (λ a. fun-ext (λ m. fun-ext (λ d. below-is l a m d)))))
+
+    slots-is : (n : ℕ) (c : List ℕ) (slot : ℕ) → batchSlots x (batchBelow x 6) 0 slot n c ≡ next (batchData x (batchLeaf x) C 0 slot n c) (λ c2. done (addRows 0 n c2))
     unfolding batchSlots
     slots-is n c slot =
-        ap (λ o. next o (λ c2. next (batchData x (batchLeaf x) C 0 slot n c2) (λ c3. done (addRows 0 n c3)))) (mask-is slot n c)
-        ∙ done-next c (λ c2. next (batchData x (batchLeaf x) C 0 slot n c2) (λ c3. done (addRows 0 n c3)))
+        ap (λ o. next o (λ c2. next (batchData x (batchBelow x 6) C 0 slot n c2) (λ c3. done (addRows 0 n c3)))) (mask-is slot n c)
+        ∙ done-next c (λ c2. next (batchData x (batchBelow x 6) C 0 slot n c2) (λ c3. done (addRows 0 n c3)))
+        ∙ ap (λ o. next o (λ c3. done (addRows 0 n c3))) (data-as slot n c)
 
     node-is : (a n : ℕ) (c : List ℕ) → batchWalk x 0 a n c ≡ found far (slotOf x 0 a n) 12 c (λ slot. next (batchData x (batchLeaf x) C 0 slot n c) (λ c2. done (addRows 0 n c2)))
     unfolding batchWalk batchNode
     node-is a n c =
-        need-is 12 c (found far (slotOf x 0 a n) 12 c (λ slot. batchSlots x (batchLeaf x) 0 slot n c)) (lt-ltb 0 32 (omega arith))
+        need-is 12 c (found far (slotOf x 0 a n) 12 c (λ slot. batchSlots x (batchBelow x 6) 0 slot n c)) (lt-ltb 0 32 (omega arith))
         ∙ ap (found far (slotOf x 0 a n) 12 c) (fun-ext (λ slot. slots-is n c slot))
 
     module _ (a n : ℕ) (wr : Bool) (c room : List ℕ) {s : ℕ} (e : s ≡ slotOf x 0 a n) where

@@ -17,7 +17,7 @@ use Rattle.batch.specs.Rise.{partsRise}
 use Rattle.batch.specs.Batch.{batchWalk}
 use Rattle.batch.proofs.Ends.{Leaves}
 use Rattle.batch.proofs.Tally.{Counts}
-use Rattle.batch.proofs.ListViews.{batch-answers}
+use Rattle.batch.proofs.Answers.{batch-answers}
 use Rattle.batch.proofs.Theorem.{batch-writes}
 use Rattle.transform.specs.Answer.{Answers}
 use Rattle.transform.proofs.Laws.{settled-parts, settled-made}
@@ -54,7 +54,7 @@ module _ (x : Lent) (counters room : List ℕ) (first source start n : ℕ) (f :
     answers = sym (tried .answer) ∙ h
 
     left : Leaves (Copy counters) (Batch counters .counters)
-    left = batch-answers X 6 0 start n counters f answers
+    left = batch-answers X 0 start n counters f answers
 
     as-copy : Did (x .plan) (x .parts) false (Copy counters) room g c1 room1
     unfolding applyIf
@@ -78,7 +78,7 @@ module _ (x : Lent) (counters room : List ℕ) (first source start n : ℕ) (f :
 
         written : apply (x .plan) (x .parts) (Copy counters .log) room ≡ apply (x .plan) (x .parts) (Batch counters .log) room
         written =
-            batch-writes X 6 0 start n counters room f body bytes less answers
+            batch-writes X 0 start n counters room f body bytes less answers
             (subst (λ z. partsWithin (x .plan) (x .parts) (length z) ≡ true) same-room (held .0))
             (subst (λ z. partsHold (x .plan) z (x .parts) ≡ true) (tried .counters) (held .1)) rise
 
