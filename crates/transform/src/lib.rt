@@ -1,11 +1,13 @@
 // The two orders on lent memory: each is tried first, on a copy of the counters, and made where no ground is found. A refused one changes nothing.
-// A copy is tried without a look at validity bits, and counts its nulls where it is made. Of a leaf (`leaf_rows`, `leaf_nulls`) no walk is tried;
-// a type that is one node of numbers goes a shorter way still (`numbers`, `number_nulls`).
+// A copy is tried without a look at validity bits, and counts its nulls where it is made. Of a leaf (`leaf_rows`, `leaf_nulls`) and a list of numbers
+// (`list_rows`, `list_nulls`) no walk is tried; a type that is one node of numbers goes a shorter way still (`numbers`, `number_nulls`).
 // Follows `try_extend` and `try_extend_nulls` of arrow-data 60.1.0 src/transform/mod.rs, Apache-2.0; see NOTICE.
 mod leaf_bits;
 mod leaf_counters;
 mod leaf_nulls;
 mod leaf_rows;
+mod list_nulls;
+mod list_rows;
 mod null_ways;
 mod number_nulls;
 mod numbers;
@@ -27,12 +29,10 @@ ghost use Rattle.leaf_walk.specs.Walks.{lentJoin, nullJoin};
 ghost use Rattle.refinement.specs.orders.Sound.{walkable};
 ghost use Rattle.refinement.specs.orders.Order.{copyOrder, nullOrder};
 ghost use Rattle.transform.specs.Answer.{lent, Answers, Settles};
-ghost use Rattle.transform.specs.numbers.Plan.{oneOfNumbers, firstOfNumbers, runsOfNumbers};
+ghost use Rattle.transform.specs.numbers.Plan.{oneOfNumbers, firstOfNumbers, runsOfNumbers, listOfNumbers};
 use array_data::lent_tables;
 use plan::grounds;
 use walk::plan_words;
-
-// ---- the counters
 
 // The counters as an array.
 pub fn load(counters: &[u64]) -> [u64; plan_words::COUNTERS]
@@ -66,8 +66,6 @@ pub fn store(counters: &mut [u64], tally: &[u64; plan_words::COUNTERS])
         i += 1;
     }
 }
-
-// ---- grounds
 
 // Whether the rows start .. end - 1 are rows of the source whose first node is `first`.
 pub fn in_source(lengths: &[u64], first: usize, start: u64, end: u64) -> bool
@@ -193,7 +191,7 @@ fn copy_nested(
     )
 }
 
-// The same by the kind of the type: a leaf is not tried first, and a type that is one node of numbers (`plain`) asks no other.
+// The same by the kind of the type: a leaf and a list of numbers are not tried first, and a type that is one node of numbers asks no other.
 fn copy_range(
     plan: &[u64],
     parts: &[u64],
@@ -202,16 +200,16 @@ fn copy_range(
     body: &[u8],
     counters: &mut [u64],
     room: &mut [u8],
-    plain: bool,
+    way: u8,
     source: usize,
     first: usize,
     start: u64,
     n: u64,
 ) -> u8
-    requires { ⌜ (length (now counters) ≡ 96) × (first < 2 ^ 32) × (source < 2 ^ 32) × (plain ≡ oneOfNumbers (now plan)) × (walkable (now plan) (length (now room)) ≡ true) ⌝ }
+    requires { ⌜ (length (now counters) ≡ 96) × (first < 2 ^ 32) × (source < 2 ^ 32) × (way ≡ 1 → oneOfNumbers (now plan) ≡ true) × (way ≡ 3 → listOfNumbers (now plan) ≡ true) × (walkable (now plan) (length (now room)) ≡ true) ⌝ }
     ensures { λ r. ⌜ ((sources : List ℕ) → Settles (lent (was plan) (was parts) sources (was lengths) (was places) (was body)) (copyWalk (lentJoin plan parts lengths places body first source) 8 0 start n) counters room r) ⌝ }
 {
-    if plain {
+    if way == null_ways::NUMBERS {
         return numbers::copy_numbers(
             plan,
             parts,
@@ -235,6 +233,20 @@ fn copy_range(
             counters,
             room,
             source,
+            first,
+            start,
+            n,
+        );
+    }
+    if (way == null_ways::LISTS) & (n != 0) {
+        return list_rows::copy_list_rows(
+            plan,
+            parts,
+            lengths,
+            places,
+            body,
+            counters,
+            room,
             first,
             start,
             n,
@@ -274,8 +286,9 @@ pub fn try_extend(
     if counters.len() != plan_words::COUNTERS {
         return 14;
     }
-    let plain = numbers::is_numbers(plan);
-    if !numbers::is_walkable(plan, room.len(), plain) {
+    let way = null_ways::copy_way(plan);
+    let known = (way == null_ways::NUMBERS) | (way == null_ways::LISTS);
+    if !numbers::is_walkable(plan, room.len(), known) {
         return 14;
     }
     if lent_tables::at_u64(plan, plan_words::SOURCE_COUNT) <= source as u64 {
@@ -293,7 +306,7 @@ pub fn try_extend(
         body,
         counters,
         room,
-        plain,
+        way,
         source as usize,
         first,
         start,
@@ -334,7 +347,7 @@ fn add_nulls(plan: &[u64], parts: &[u64], counters: &mut [u64], room: &mut [u8],
     g
 }
 
-// The same by the kind of the type: nulls of a leaf are not tried first.
+// The same by the kind of the type: nulls of a leaf, of run ends over numbers and of a list of numbers are not tried first.
 fn add_null_range(
     plan: &[u64],
     parts: &[u64],
@@ -343,7 +356,7 @@ fn add_null_range(
     way: u8,
     n: u64,
 ) -> u8
-    requires { ⌜ (length (now counters) ≡ 96) × (way ≡ 1 → firstOfNumbers (now plan) ≡ true) × (way ≡ 2 → runsOfNumbers (now plan) ≡ true) × (walkable (now plan) (length (now room)) ≡ true) ⌝ }
+    requires { ⌜ (length (now counters) ≡ 96) × (way ≡ 1 → firstOfNumbers (now plan) ≡ true) × (way ≡ 2 → runsOfNumbers (now plan) ≡ true) × (way ≡ 3 → listOfNumbers (now plan) ≡ true) × (walkable (now plan) (length (now room)) ≡ true) ⌝ }
     ensures { λ r. ⌜ ((sources lengths places body : List ℕ) → Settles (lent (was plan) (was parts) sources lengths places body) (nullWalk (nullJoin plan parts) 8 0 n) counters room r) ⌝ }
 {
     if (way == null_ways::NUMBERS) & (n != 0) {
@@ -351,6 +364,9 @@ fn add_null_range(
     }
     if (way == null_ways::RUNS) & (n != 0) & (lent_tables::at_u64(counters, 2) == 0) {
         return run_nulls::add_run_nulls(plan, parts, counters, room, n);
+    }
+    if (way == null_ways::LISTS) & (n != 0) {
+        return list_nulls::add_list_nulls(plan, parts, counters, room, n);
     }
     if (n != 0) & schema::formats::within(plan_words::code_of(plan, 0), 1, 16) {
         return leaf_nulls::add_leaf_nulls(plan, parts, counters, room, n);
@@ -372,7 +388,7 @@ pub fn try_extend_nulls(
         return 14;
     }
     let way = null_ways::way_of(plan);
-    let known = (way == null_ways::NUMBERS) | (way == null_ways::RUNS);
+    let known = (way == null_ways::NUMBERS) | (way == null_ways::RUNS) | (way == null_ways::LISTS);
     if !numbers::is_walkable(plan, room.len(), known) {
         return 14;
     }

@@ -1,19 +1,21 @@
-// Types whose nulls go a shorter way.
+// Types whose orders go a shorter way.
 ghost use mathlib.Core.Path.{_≡_};
 ghost use mathlib.Core.Bool.{true};
 ghost use Prim.Native.Nat.{_<_};
 ghost use Rattle.clauses.specs.Slices.{was};
-ghost use Rattle.transform.specs.numbers.Plan.{keptKeys, firstOfNumbers, numbersAt, runsOfNumbers};
+ghost use Rattle.transform.specs.numbers.Plan.{oneOfNumbers, keptKeys, firstOfNumbers, numbersAt, runsOfNumbers, listOfNumbers};
 use crate::numbers;
 use nested_rows::node_data;
 use walk::plan_words;
 
-// No shorter way; numbers or keys; run ends over numbers.
+// No shorter way; numbers or keys; run ends over numbers; a list of numbers.
 pub const OTHER: u8 = 0;
 
 pub const NUMBERS: u8 = 1;
 
 pub const RUNS: u8 = 2;
+
+pub const LISTS: u8 = 3;
 // The last code of a leaf, and of numbers of one byte.
 const LAST_LEAF: u8 = 16;
 
@@ -83,10 +85,44 @@ fn is_runs(plan: &[u64]) -> bool
     LAST_OF_ONE_BYTE < plan_words::code_of(plan, 1)
 }
 
-// The way of a type.
+// Whether the type is a list of numbers.
+fn is_list(plan: &[u64]) -> bool
+    ensures { λ r. ⌜ (r ≡ true → listOfNumbers (was plan) ≡ true) ⌝ }
+{
+    if plan::parts::node_count(plan) != 2 {
+        return false;
+    }
+    if !schema::formats::is_list(plan_words::code_of(plan, 0)) {
+        return false;
+    }
+    if plan_words::dictionary_of(plan, 0) != 0 {
+        return false;
+    }
+    if plan_words::end_of(plan, 0) != 2 {
+        return false;
+    }
+    is_numbers_at(plan, 1)
+}
+
+// The way of a type's copies.
+pub fn copy_way(plan: &[u64]) -> u8
+    ensures { λ r. ⌜ (r ≡ 1 → oneOfNumbers (was plan) ≡ true) ⌝ }
+    ensures { λ r. ⌜ (r ≡ 3 → listOfNumbers (was plan) ≡ true) ⌝ }
+{
+    if numbers::is_numbers(plan) {
+        return NUMBERS;
+    }
+    if is_list(plan) {
+        return LISTS;
+    }
+    OTHER
+}
+
+// The way of its nulls.
 pub fn way_of(plan: &[u64]) -> u8
     ensures { λ r. ⌜ (r ≡ 1 → firstOfNumbers (was plan) ≡ true) ⌝ }
     ensures { λ r. ⌜ (r ≡ 2 → runsOfNumbers (was plan) ≡ true) ⌝ }
+    ensures { λ r. ⌜ (r ≡ 3 → listOfNumbers (was plan) ≡ true) ⌝ }
 {
     if numbers::is_numbers(plan) {
         return NUMBERS;
@@ -96,6 +132,9 @@ pub fn way_of(plan: &[u64]) -> u8
     }
     if is_runs(plan) {
         return RUNS;
+    }
+    if is_list(plan) {
+        return LISTS;
     }
     OTHER
 }

@@ -87,7 +87,7 @@ fn in_room(parts: &[u64], m: usize, p: usize) -> bool
 }
 
 // 14 where part p is not in the table or not in the room, and else 13 where it does not hold its bytes.
-fn part_ground(parts: &[u64], m: usize, p: usize, holds: bool) -> u8
+pub fn part_ground(parts: &[u64], m: usize, p: usize, holds: bool) -> u8
     requires { ⌜ p < 4294967298 ⌝ }
     ensures { λ r. ⌜ r ≡ verdict (ltb (2 * p + 1) (length (was parts)) && inRoom (was parts) m p) holds ⌝ }
 {
@@ -114,8 +114,8 @@ fn entries_ground(plan: &[u64], parts: &[u64], m: usize, i: usize, w: u64, r: u6
 }
 
 // The part of the validity of r rows of node i, where nulls are kept.
-fn bits_ground(plan: &[u64], parts: &[u64], m: usize, i: usize, r: u64) -> u8
-    requires { ⌜ (i < 32) × (isFixed (codeOf (now plan) i) ≡ true) × (copied (now plan) i ≡ true) ⌝ }
+pub fn bits_ground(plan: &[u64], parts: &[u64], m: usize, i: usize, r: u64) -> u8
+    requires { ⌜ (i < 32) × (codeOf (now plan) i < 21) × (copied (now plan) i ≡ true) ⌝ }
     ensures { λ g. ⌜ ((counters : List ℕ) → rows counters i ≡ r → g ≡ verdict (partWithin (was plan) (was parts) m i 0) (partHolds (was plan) counters (was parts) i 0)) ⌝ }
 {
     if plan_words::keeps_of(plan, i) == 0 {

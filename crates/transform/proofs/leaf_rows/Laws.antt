@@ -34,7 +34,7 @@ pub bits-tests : (x : Join) (i slot n : ℕ) {k v at : ℕ} → k ≡ keepsOf (x
 bits-tests x i slot n e h f l q b = rw q (rw (is-some e h, is-some f l) at b)
 
 module _ (x : Join) (i slot n : ℕ) (c room : List ℕ) where
-  dry-mask : bitsIn x i slot n ≡ true → nulls c i ≡ top → Did (x .plan) (x .parts) false (copyMask x i slot n c) room 0 c room
+  pub dry-mask : bitsIn x i slot n ≡ true → nulls c i ≡ top → Did (x .plan) (x .parts) false (copyMask x i slot n c) room 0 c room
   unfolding applyIf
   dry-mask h f = go (eqb (keepsOf (x .plan) i) 0) refl (eqb (place x i 0) 0) refl
     where

@@ -1,5 +1,4 @@
 -- `transform::try_extend` meets its contract. Assumes nothing.
-use mathlib.Core.Path.{sym, _∙_}
 use Prim.Native.Nat.{_≤_}
 use native.Mathlib.Omega.{arith}
 use lib.Dec.{leb}
@@ -7,7 +6,7 @@ use borrow.Author.Tests.{leb-true}
 use Rattle.array_data.proofs.lent_tables.Laws.{no, yes, and-left}
 use Rattle.transform.specs.Answer.{lent}
 use Rattle.transform.proofs.Laws.{copy-counters, copy-foreign, copy-source, copy-range, copy-made}
-use Rattle.transform.proofs.numbers.Laws.{one-node, one-first}
+use Rattle.transform.proofs.null_ways.Laws.{copies-sound}
 use borrow.Author.Needs.{needs}
 use Rattle.transform.proofs.try_extend.Statement.{statement}
 use Rattle.transform.proofs.try_extend.Tie as tie
@@ -18,13 +17,11 @@ returns c =
     let x = lent (z .plan .now) (z .parts .now) (z .sources .now) (z .lengths .now) (z .places .now) (z .body .now) in
     copy-counters x (z .counters .now) (z .room .now) (z .source) (z .start) (z .end) (c .if1 .taken)
 
-is-numbers-requires : tie.Need-is-numbers-requires
-is-numbers-requires c κs = search needs
+copy-way-requires : tie.Need-copy-way-requires
+copy-way-requires c κs = search needs
 
 is-walkable-requires : tie.Need-is-walkable-requires
-is-walkable-requires c κs =
-    let p = c .before .before .before .before .before .before .before .before .before .before .args .plan .now in
-    λ z. one-first p (one-node p (sym (c .is-numbers .ensures) ∙ z)) .sound
+is-walkable-requires c κs = copies-sound (c .before .before .before .before .before .before .before .before .before .before .args .plan .now) (c .copy-way .result) (c .copy-way .ensures .0) (c .copy-way .ensures .1)
 
 returns-2 : tie.Need-returns-2
 returns-2 c =
@@ -66,7 +63,7 @@ sub-copy-range c =
     omega (arith, f)
 
 copy-range-requires : tie.Need-copy-range-requires
-copy-range-requires c κs = (c .before .before .before .before .before .before .before .before .before .before .if1 .left, omega arith, omega arith, c .before .before .before .before .before .before .before .before .before .is-numbers .ensures, yes (c .before .before .before .before .before .before .before .before .is-walkable .ensures) (c .before .before .before .before .before .before .before .if2 .left))
+copy-range-requires c κs = (c .before .before .before .before .before .before .before .before .before .before .if1 .left, omega arith, omega arith, c .before .before .before .before .before .before .before .before .before .copy-way .ensures .0, c .before .before .before .before .before .before .before .before .before .copy-way .ensures .1, yes (c .before .before .before .before .before .before .before .before .is-walkable .ensures) (c .before .before .before .before .before .before .before .if2 .left))
 
 same-length : tie.Need-same-length
 same-length c = search needs
@@ -81,4 +78,4 @@ returns-5 c =
     copy-made x (z .counters .now) (z .room .now) (z .source) (z .start) (z .end) (c .before .before .before .before .before .before .before .before .before .before .before .before .before .before .before .if1 .left) (yes (c .before .before .before .before .before .before .before .before .before .before .before .before .before .is-walkable .ensures) (c .before .before .before .before .before .before .before .before .before .before .before .before .if2 .left)) (c .before .before .before .before .before .before .before .before .before .before .before .at-u64 .ensures) (c .before .before .before .before .before .before .before .before .before .before .if3 .left) (c .before .before .before .before .before .before .before .before .before .at-u32 .ensures) (yes (c .before .before .before .before .before .before .before .before .in-source .ensures) (c .before .before .before .before .before .before .before .if4 .left)) (c .before .before .before .before .copy-range .ensures (z .sources .now))
 
 pub try-extend-spec : {M : Type 1} → statement M
-try-extend-spec = tie.close (tie.spec returns is-numbers-requires is-walkable-requires returns-2 at-u64-requires returns-3 mul-at-u32 at-u32-requires cast-first in-source-requires returns-4 sub-copy-range copy-range-requires same-length same-length-2 returns-5)
+try-extend-spec = tie.close (tie.spec returns copy-way-requires is-walkable-requires returns-2 at-u64-requires returns-3 mul-at-u32 at-u32-requires cast-first in-source-requires returns-4 sub-copy-range copy-range-requires same-length same-length-2 returns-5)

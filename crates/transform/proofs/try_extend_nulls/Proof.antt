@@ -16,7 +16,7 @@ way-of-requires : tie.Need-way-of-requires
 way-of-requires c κs = search needs
 
 is-walkable-requires : tie.Need-is-walkable-requires
-is-walkable-requires c κs = way-sound (c .before .before .before .before .before .before .args .plan .now) (c .way-of .result) (c .way-of .ensures .0) (c .way-of .ensures .1)
+is-walkable-requires c κs = way-sound (c .before .before .before .before .before .before .args .plan .now) (c .way-of .result) (c .way-of .ensures .0) (c .way-of .ensures .1 .0) (c .way-of .ensures .1 .1)
 
 returns-2 : tie.Need-returns-2
 returns-2 c =
@@ -35,7 +35,7 @@ at-most-far-requires : tie.Need-at-most-far-requires
 at-most-far-requires c κs = search needs
 
 add-null-range-requires : tie.Need-add-null-range-requires
-add-null-range-requires c κs = (c .before .before .before .before .before .before .before .before .if1 .left, c .before .before .before .before .before .before .before .way-of .ensures .0, c .before .before .before .before .before .before .before .way-of .ensures .1, yes (c .before .before .before .before .before .before .is-walkable .ensures) (c .before .before .before .before .before .if2 .left))
+add-null-range-requires c κs = (c .before .before .before .before .before .before .before .before .if1 .left, c .before .before .before .before .before .before .before .way-of .ensures .0, c .before .before .before .before .before .before .before .way-of .ensures .1 .0, c .before .before .before .before .before .before .before .way-of .ensures .1 .1, yes (c .before .before .before .before .before .before .is-walkable .ensures) (c .before .before .before .before .before .if2 .left))
 
 same-length : tie.Need-same-length
 same-length c = search needs

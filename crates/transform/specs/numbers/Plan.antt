@@ -1,9 +1,9 @@
--- Types whose orders go a shorter way: one node of numbers, keys with a kept dictionary, run ends over numbers. Assumes nothing.
+-- Types whose orders go a shorter way: one node of numbers, keys with a kept dictionary, run ends over numbers, a list of numbers. Assumes nothing.
 use mathlib.Core.Bool.{Bool, not, _&&_, _||_}
 use mathlib.Core.List.{List}
 use Prim.Native.Nat.{ℕ, suc}
 use lib.Dec.{leb, ltb, eqb}
-use Rattle.schema.specs.formats.Code.{isFixed}
+use Rattle.schema.specs.formats.Code.{isFixed, isList}
 use Rattle.walk.specs.State.{codeOf, dictionaryOf, endOf}
 use Rattle.plan.specs.parts.Parts.{nodesOf, copied}
 
@@ -28,3 +28,7 @@ numbersAt plan i = eqb (endOf plan i) (suc i) && eqb (dictionaryOf plan i) 0 && 
 abbrev pub runsOfNumbers : List ℕ → Bool
 runsOfNumbers plan =
     eqb (nodesOf plan) 3 && eqb (codeOf plan 0) 23 && eqb (dictionaryOf plan 0) 0 && eqb (endOf plan 0) 3 && numbersAt plan 1 && numbersAt plan 2 && ltb 2 (codeOf plan 1)
+
+-- the plan has two nodes: a list, and its items, of numbers
+abbrev pub listOfNumbers : List ℕ → Bool
+listOfNumbers plan = eqb (nodesOf plan) 2 && isList (codeOf plan 0) && eqb (dictionaryOf plan 0) 0 && eqb (endOf plan 0) 2 && numbersAt plan 1

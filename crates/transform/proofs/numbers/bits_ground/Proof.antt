@@ -1,11 +1,9 @@
 -- `transform::numbers::bits_ground` meets its contract. Assumes nothing.
 use mathlib.Core.Path.{refl, sym, _∙_}
-use native.Mathlib.Omega.{arith}
-use Rattle.walk.specs.State.{codeOf}
 use Rattle.plan.proofs.parts.Laws.{holds-by}
 use Rattle.plan.proofs.parts.Words.{has-bits}
 use Rattle.plan.proofs.grounds.Laws.{part-none, part-some, no-bits}
-use Rattle.transform.proofs.numbers.Laws.{fixed-low, bits-need}
+use Rattle.transform.proofs.numbers.Laws.{bits-need}
 use borrow.Author.Needs.{needs}
 use Rattle.transform.proofs.numbers.bits_ground.Statement.{statement}
 use Rattle.transform.proofs.numbers.bits_ground.Tie as tie
@@ -39,7 +37,7 @@ part-ground-requires c κs = search needs
 returns-2 : tie.Need-returns-2
 returns-2 c =
     let a = c .before .before .before .before .before .before .before .before .args in
-    let has = has-bits (a .plan .now) (a .i) (c .before .before .before .before .before .before .before .before .pre .2) (λ z. c .before .before .before .before .if1 .left (c .before .before .before .before .before .keeps-of .ensures ∙ z)) (omega (arith, fixed-low (codeOf (a .plan .now) (a .i)) (c .before .before .before .before .before .before .before .before .pre .1) .1)) in
+    let has = has-bits (a .plan .now) (a .i) (c .before .before .before .before .before .before .before .before .pre .2) (λ z. c .before .before .before .before .if1 .left (c .before .before .before .before .before .keeps-of .ensures ∙ z)) (c .before .before .before .before .before .before .before .before .pre .1) in
     λ counters q. part-some (a .plan .now) counters (a .parts .now) (a .m) (a .i) 0 has (c .before .before .before .number-of .ensures .0) (c .before .bits-fit .ensures ∙ bits-need (a .r) (c .before .before .at-u64 .result) ∙ holds-by (a .plan .now) counters (a .parts .now) (a .i) 0 refl (sym q) refl (c .before .before .before .number-of .ensures .0) (c .before .before .at-u64 .ensures)) (c .part-ground .ensures)
 
 pub bits-ground-spec : {M : Type 1} → statement M

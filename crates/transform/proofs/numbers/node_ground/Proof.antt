@@ -1,5 +1,7 @@
 -- `transform::numbers::node_ground` meets its contract. Assumes nothing.
-use Rattle.transform.proofs.numbers.Laws.{two-parts, worse-lt, worse-ge}
+use native.Mathlib.Omega.{arith}
+use Rattle.walk.specs.State.{codeOf}
+use Rattle.transform.proofs.numbers.Laws.{fixed-low, two-parts, worse-lt, worse-ge}
 use borrow.Author.Needs.{needs}
 use Rattle.transform.proofs.numbers.node_ground.Statement.{statement}
 use Rattle.transform.proofs.numbers.node_ground.Tie as tie
@@ -8,7 +10,9 @@ entries-ground-requires : tie.Need-entries-ground-requires
 entries-ground-requires c κs = c .before .before .pre
 
 bits-ground-requires : tie.Need-bits-ground-requires
-bits-ground-requires c κs = (c .before .before .before .pre .0, c .before .before .before .pre .1, c .before .before .before .pre .3)
+bits-ground-requires c κs =
+    let a = c .before .before .before .args in
+    (c .before .before .before .pre .0, omega (arith, fixed-low (codeOf (a .plan .now) (a .i)) (c .before .before .before .pre .1) .1), c .before .before .before .pre .3)
 
 returns : tie.Need-returns
 returns c =

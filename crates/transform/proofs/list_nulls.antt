@@ -1,0 +1,2 @@
+-- What nulls of a list of numbers go by.
+pub mod Laws

@@ -1,0 +1,2 @@
+-- What copies of a list of numbers go by.
+pub mod Laws
