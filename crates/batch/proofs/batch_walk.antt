@@ -1,6 +1,7 @@
 -- What the walk by stretches goes by.
 pub mod Sides
 pub mod Sums
+pub mod Overlaps
 pub mod PlainLeaf
 pub mod TextLeaf
 pub mod Loops

@@ -9,6 +9,7 @@ mod list_view;
 mod listed;
 mod numbers;
 pub mod rise;
+mod short_copy;
 mod side;
 mod sizes;
 mod survey;

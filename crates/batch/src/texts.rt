@@ -1,18 +1,20 @@
 // Stretches of byte strings without validity: offsets and bytes. The steps are those of `leaf_walk::variable_size`, whose inlining a second caller would end.
 ghost use mathlib.Core.Path.{_≡_};
 ghost use mathlib.Core.Bool.{true};
-ghost use mathlib.Core.List.{List};
+ghost use mathlib.Core.List.{List, [], _∷_};
 ghost use Prim.Native.Nat.{ℕ, _+_, _*_, _<_, _≤_, _^_};
-ghost use lib.ListN.{length};
-ghost use Rattle.clauses.specs.Slices.{was};
+ghost use lib.ListN.{length, take, drop};
+ghost use Rattle.clauses.specs.Slices.{was, left};
 ghost use Rattle.utils.specs.Extension.{extended};
 ghost use Rattle.walk.specs.State.{bytesOf, bytes};
+ghost use Rattle.walk.specs.Log.{put, applyIf};
 ghost use Rattle.walk.specs.Leaves.{putString, putExtended};
 ghost use Rattle.leaf_walk.specs.Join.{join};
 ghost use Rattle.leaf_walk.specs.Walks.{lentJoin, Walks};
 ghost use Rattle.batch.specs.Stretch.{neverFalls};
 ghost use Rattle.batch.specs.Batch.{batchLeaf};
 ghost use Rattle.batch.specs.batch_walk.Plain.{isText, steadyString};
+use crate::short_copy;
 use array_data::lent_tables;
 use leaf_walk::variable_size;
 use nested_rows::lookups;
@@ -27,6 +29,27 @@ pub fn is_text(plan: &[u64], k: usize) -> bool
         return false;
     }
     plan_words::keeps_of(plan, k) == 0
+}
+
+// n bytes of body from `from` on, as the bytes of node k from its byte o on.
+fn put_chars(
+    plan: &[u64],
+    parts: &[u64],
+    room: &mut [u8],
+    write: bool,
+    k: usize,
+    o: u64,
+    body: &[u8],
+    from: usize,
+    n: u64,
+)
+    requires { ⌜ (k < 32) × (from + n ≤ length (now body)) ⌝ }
+    ensures { λ _. ⌜ left room ≡ applyIf (was plan) (was parts) write (put k 2 o (take n (drop from (was body))) ∷ []) (was room) ⌝ }
+{
+    match plan_words::target(plan, parts, room.len(), write, k, 2, o, n) {
+        plan_words::Goal::At(at) => short_copy::copy_short(room, at, body, from, n as usize),
+        plan_words::Goal::Skip => {}
+    }
 }
 
 // Whether the n + 1 offsets of w bytes at `from` never fall.
@@ -102,13 +125,12 @@ fn put_string(
         old,
     );
     let begin = at + lead;
-    room_writes::put_copy(
+    put_chars(
         plan,
         parts,
         room,
         write,
         k,
-        2,
         old,
         body,
         begin as usize,

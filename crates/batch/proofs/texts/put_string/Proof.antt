@@ -48,13 +48,13 @@ add-begin c =
     let a = c .before .before .before .before .before .before .before .before .before .before .before .before .before .before .before .before .before .before .args in
     omega (arith, bytes-in (length (a .body .now)) (c .before .before .before .before .before .before .before .before .before .before .before .before .place .result) (a .lead) (a .last - c .before .before .before .before .before .before .before .before .before .before .bytes-of .result) (c .before .before .before .before .before .before .before .before .before .bytes-in .ensures) (c .before .before .before .before .before .before .before .before .if1 .left), c .before .before .before .before .before .before .before .before .before .before .before .before .before .before .before .before .before .before .good)
 
-sub-put-copy : tie.Need-sub-put-copy
-sub-put-copy c = search needs
+sub-put-chars : tie.Need-sub-put-chars
+sub-put-chars c = search needs
 
-put-copy-requires : tie.Need-put-copy-requires
-put-copy-requires c κs =
+put-chars-requires : tie.Need-put-chars-requires
+put-chars-requires c κs =
     let a = c .before .before .before .before .before .before .before .before .before .before .before .before .before .before .before .before .before .before .before .args in
-    (c .before .before .before .before .before .before .before .before .before .before .before .before .before .before .before .before .before .before .before .pre .0 .1, omega arith, bytes-in (length (a .body .now)) (c .before .before .before .before .before .before .before .before .before .before .before .before .before .place .result) (a .lead) (a .last - c .before .before .before .before .before .before .before .before .before .before .before .bytes-of .result) (c .before .before .before .before .before .before .before .before .before .before .bytes-in .ensures) (c .before .before .before .before .before .before .before .before .before .if1 .left))
+    (c .before .before .before .before .before .before .before .before .before .before .before .before .before .before .before .before .before .before .before .pre .0 .1, bytes-in (length (a .body .now)) (c .before .before .before .before .before .before .before .before .before .before .before .before .before .place .result) (a .lead) (a .last - c .before .before .before .before .before .before .before .before .before .before .before .bytes-of .result) (c .before .before .before .before .before .before .before .before .before .before .bytes-in .ensures) (c .before .before .before .before .before .before .before .before .before .if1 .left))
 
 set-bytes-requires : tie.Need-set-bytes-requires
 set-bytes-requires c κs = c .before .before .before .before .before .before .before .before .before .before .before .before .before .before .before .before .before .before .before .before .before .before .before .pre .0 .1
@@ -65,7 +65,7 @@ same-length c = search needs
 returns-2 : tie.Need-returns-2
 returns-2 c =
     let a = c .before .before .before .before .before .before .before .before .before .before .before .before .before .before .before .before .before .before .before .before .before .before .before .before .args in
-    λ lengths source. string-yes (join (a .plan .now) (a .parts .now) lengths (a .places .now) (a .body .now) (a .first) source) (a .k) (a .write) (a .counters .now) (a .room .now) (a .w) (a .from) (a .n) (a .last) (a .lead) (c .before .before .before .before .before .before .before .before .before .before .before .before .before .before .before .before .before .before .place .ensures) (c .before .before .before .before .before .before .before .before .before .before .before .before .before .before .before .before .bytes-of .ensures) (c .before .before .before .before .before .before .before .before .before .before .before .before .before .before .before .bytes-in .ensures) (c .before .before .before .before .before .before .before .before .before .before .before .before .before .before .if1 .left) (c .before .before .before .before .before .before .before .before .before .before .before .before .rows-of .ensures) (c .before .before .before .before .before .before .before .before .before .before .before .grow .ensures) (c .before .before .before .before .before .before .before .before .before .before .scale .ensures) (width-in (a .w) (λ p q. c .before .before .before .before .before .before .before .before .before .before .before .before .before .before .before .before .before .before .before .before .before .before .before .before .pre .1) .0) (omega (arith, c .before .before .before .before .before .before .before .before .before .before .before .before .before .before .before .before .before .before .before .before .before .before .before .before .good)) (c .before .before .before .before .before .before .before .before .put-offsets .ensures) (c .before .before .before .before .put-copy .ensures) (c .set-bytes .ensures)
+    λ lengths source. string-yes (join (a .plan .now) (a .parts .now) lengths (a .places .now) (a .body .now) (a .first) source) (a .k) (a .write) (a .counters .now) (a .room .now) (a .w) (a .from) (a .n) (a .last) (a .lead) (c .before .before .before .before .before .before .before .before .before .before .before .before .before .before .before .before .before .before .place .ensures) (c .before .before .before .before .before .before .before .before .before .before .before .before .before .before .before .before .bytes-of .ensures) (c .before .before .before .before .before .before .before .before .before .before .before .before .before .before .before .bytes-in .ensures) (c .before .before .before .before .before .before .before .before .before .before .before .before .before .before .if1 .left) (c .before .before .before .before .before .before .before .before .before .before .before .before .rows-of .ensures) (c .before .before .before .before .before .before .before .before .before .before .before .grow .ensures) (c .before .before .before .before .before .before .before .before .before .before .scale .ensures) (width-in (a .w) (λ p q. c .before .before .before .before .before .before .before .before .before .before .before .before .before .before .before .before .before .before .before .before .before .before .before .before .pre .1) .0) (omega (arith, c .before .before .before .before .before .before .before .before .before .before .before .before .before .before .before .before .before .before .before .before .before .before .before .before .good)) (c .before .before .before .before .before .before .before .before .put-offsets .ensures) (c .before .before .before .before .put-chars .ensures) (c .set-bytes .ensures)
 
 pub put-string-spec : {M : Type 1} → statement M
 put-string-spec =
@@ -82,8 +82,8 @@ put-string-spec =
     scale-requires
     put-offsets-requires
     add-begin
-    sub-put-copy
-    put-copy-requires
+    sub-put-chars
+    put-chars-requires
     set-bytes-requires
     same-length
     returns-2)
