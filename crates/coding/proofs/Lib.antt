@@ -12,6 +12,7 @@ pub mod Expanded
 pub mod Fewer
 pub mod Finished
 pub mod Fitted
+pub mod Fours
 pub mod Grounds
 pub mod InOrder
 pub mod Node
