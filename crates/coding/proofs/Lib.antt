@@ -16,6 +16,7 @@ pub mod Fours
 pub mod Grounds
 pub mod InOrder
 pub mod Node
+pub mod OneNode
 pub mod PlanRows
 pub mod RowRoom
 pub mod PlanRuns
