@@ -12,9 +12,11 @@ pub mod Expanded
 pub mod Fewer
 pub mod Finished
 pub mod Fitted
+pub mod Fours
 pub mod Grounds
 pub mod InOrder
 pub mod Node
+pub mod OneNode
 pub mod PlanRows
 pub mod RowRoom
 pub mod PlanRuns

@@ -5,9 +5,8 @@ use mathlib.Core.List.{List, []}
 use Prim.Native.Nat.{ℕ, zero, suc, _+_, _*_, _-_, _≤_, _<_, _^_}
 use native.Mathlib.Omega.{arith}
 use lib.ListN.{length, getD}
-use lib.Dec.{eqb}
 use Rattle.schema.specs.formats.Code.{isRunEnd, widthOf}
-use Rattle.schema.specs.Tree.{codeOf, ceilings, typed}
+use Rattle.schema.specs.Tree.{codeOf}
 use Rattle.array_data.specs.Tables.{Tables}
 use Rattle.array_data.specs.lent_tables.Lent.{tables}
 use Rattle.source_rules.specs.kinds.Rows.{tablesOf}
@@ -36,27 +35,6 @@ module _ (formats schema : List ℕ) (first : ℕ) {c : ℕ} {d : Bool} (ec : c 
   pub taken-yes : not d ≡ false → {p : Bool} → p ≡ plainAt formats schema first 2 → p ≡ runsOfPlain formats schema first 0
   unfolding runsOfPlain
   taken-yes h e = e ∙ rw (yes-by (ed ∙ ap isRunEnd ec) h)
-
--- ---- the target
-
-module _ (formats schema : List ℕ) (first target : ℕ) {a : Bool} (ea : a ≡ ceilings formats schema target 1) where
-  pub over-ceilings : not a ≡ true → false ≡ plainOver formats schema first target
-  unfolding plainOver
-  over-ceilings h = rw (no-by ea h)
-
-  module _ (ha : not a ≡ false) {b : Bool} (eb : b ≡ typed formats schema target 1) where
-    pub over-typed : not b ≡ true → false ≡ plainOver formats schema first target
-    unfolding plainOver
-    over-typed h = rw (yes-by ea ha, no-by eb h)
-
-    module _ (hb : not b ≡ false) {p : Bool} (ep : p ≡ plainAt formats schema target 0) where
-      pub over-plain : not p ≡ true → false ≡ plainOver formats schema first target
-      unfolding plainOver
-      over-plain h = rw (yes-by ea ha, yes-by eb hb, no-by ep h)
-
-      pub over-same : not p ≡ false → {u v : ℕ} → u ≡ codeOf formats schema target 0 → v ≡ codeOf formats schema first 2 → eqb u v ≡ plainOver formats schema first target
-      unfolding plainOver
-      over-same h eu ev = rw (yes-by ea ha, yes-by eb hb, yes-by ep h, eu, ev)
 
 -- ---- 10, 2
 

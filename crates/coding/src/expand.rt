@@ -38,21 +38,22 @@ fn is_taken(formats: &[u8], schema: &[u32], first: u32) -> bool
     crate::is_plain(formats, schema, first, 2)
 }
 
-// Whether node `target` is a type of the values' format.
+// Whether node `target` is a type of the values' format: a node of numbers with nothing below it is a whole type within the ceilings.
 fn is_due(formats: &[u8], schema: &[u32], first: u32, target: u32) -> bool
     ensures { λ r. ⌜ r ≡ plainOver (was formats) (was schema) first target ⌝ }
 {
     let at = target as usize;
-    if !schema::is_within_ceilings(formats, schema, at, 1) {
+    if schema::children_of(schema, at, 0) != 0 {
         return false;
     }
-    if !schema::is_typed(formats, schema, at, 1) {
+    if schema::dictionary_of(schema, at, 0) != 0 {
         return false;
     }
-    if !crate::is_plain(formats, schema, target, 0) {
+    let code = schema::code_of(formats, schema, at, 0);
+    if !schema::formats::is_fixed(code) {
         return false;
     }
-    schema::code_of(formats, schema, at, 0) == schema::code_of(formats, schema, first as usize, 2)
+    code == schema::code_of(formats, schema, first as usize, 2)
 }
 
 // THE GROUNDS OF ITS OWN before room is asked: 10, 2.

@@ -31,6 +31,26 @@ fn fill(room: &mut [u8], at: usize, w: u8, n: usize, v: u64)
     }
 }
 
+// The same, four at a time: the first four, those behind them in blocks that begin at a multiple of four entries of 8 bytes, so that the
+// compiler's stores stay within a line of the cache, and the last four. Blocks may lie over one another: no second loop is left.
+fn fill_fours(room: &mut [u8], at: usize, w: u8, n: usize, v: u64)
+    requires { ⌜ Sized w × (at + w * n ≤ length (now room)) ⌝ }
+    ensures { λ _. ⌜ left room ≡ splice at (repeated w v n) (was room) ⌝ }
+{
+    if n < 4 {
+        fill(room, at, w, n, v);
+        return;
+    }
+    let last = n - 4;
+    fill(room, at, w, 4, v);
+    let mut i = 4 - at / 8 % 4;
+    while i <= last {
+        fill(room, at + (w as usize) * i, w, 4, v);
+        i += 4;
+    }
+    fill(room, at + (w as usize) * last, w, 4, v);
+}
+
 // The same; a loop for each width.
 fn fill_by(room: &mut [u8], at: usize, w: u8, n: usize, v: u64)
     requires { ⌜ Sized w × (at + w * n ≤ length (now room)) ⌝ }
@@ -40,7 +60,7 @@ fn fill_by(room: &mut [u8], at: usize, w: u8, n: usize, v: u64)
         1 => fill(room, at, 1, n, v),
         2 => fill(room, at, 2, n, v),
         4 => fill(room, at, 4, n, v),
-        _ => fill(room, at, 8, n, v),
+        _ => fill_fours(room, at, 8, n, v),
     }
 }
 

@@ -38,8 +38,8 @@ fill-requires-3 c κs =
     let s = c .before .before .before in
     subst (λ w. Asks s w) (c .before .match .keys3) (s .pre)
 
-fill-requires-4 : tie.Need-fill-requires-4
-fill-requires-4 c κs =
+fill-fours-requires : tie.Need-fill-fours-requires
+fill-fours-requires c κs =
     let s = c .before .before .before in
     subst (λ w. Asks s w) (let r = c .before .match .rest in last (c .before .before .before) (r .0 .0 .1) (r .0 .1) (r .1)) (s .pre)
 
@@ -73,7 +73,7 @@ same-length-4 c = search needs
 returns-4 : tie.Need-returns-4
 returns-4 c =
     let s = c .before .before .before .before .before .before in
-    back s 8 (let r = c .before .before .before .before .match .rest in last (c .before .before .before .before .before .before) (r .0 .0 .1) (r .0 .1) (r .1)) (c .before .before .fill4 .ensures)
+    back s 8 (let r = c .before .before .before .before .match .rest in last (c .before .before .before .before .before .before) (r .0 .0 .1) (r .0 .1) (r .1)) (c .before .before .fill-fours .ensures)
 
 pub fill-by-spec : {M : Type 1} → statement M
 fill-by-spec =
@@ -82,7 +82,7 @@ fill-by-spec =
     fill-requires
     fill-requires-2
     fill-requires-3
-    fill-requires-4
+    fill-fours-requires
     same-length
     returns
     same-length-2
