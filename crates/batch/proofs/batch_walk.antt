@@ -8,6 +8,7 @@ pub mod Loops
 pub mod Tried
 pub mod Gathered
 pub mod Node
+pub mod Nested
 pub mod Homes
 pub mod Falls
 pub mod Fields

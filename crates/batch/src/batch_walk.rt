@@ -3,21 +3,21 @@
 
 ghost use mathlib.Core.Path.{_≡_};
 ghost use mathlib.Core.Bool.{true};
-ghost use Prim.Native.Nat.{ℕ, _+_, _<_, _^_};
+ghost use Prim.Native.Nat.{ℕ, _<_, _^_};
 ghost use Rattle.clauses.specs.Slices.{was};
 ghost use Rattle.walk.specs.State.{codeOf};
 ghost use Rattle.leaf_walk.specs.Walks.{lentJoin, Walks};
-ghost use Rattle.batch.specs.Batch.{batchLeaf, batchData, batchWalk};
-ghost use Rattle.batch.specs.batch_walk.Plain.{isFlat, isListed, flatBelow, isStretched};
+ghost use Rattle.batch.specs.Batch.{batchWalk};
+ghost use Rattle.batch.specs.batch_walk.Plain.{isFlat, isNested, isListed, flatBelow, isStretched};
 use crate::dense_union;
-use crate::list_view;
+use crate::nested_views;
 use crate::numbers;
 use crate::texts;
 use nested_rows::lookups;
 use walk::plan_words;
 
 // Whether node k is of numbers or byte strings, and keeps no nulls.
-fn is_flat(plan: &[u64], k: usize) -> bool
+pub fn is_flat(plan: &[u64], k: usize) -> bool
     requires { ⌜ k < 32 ⌝ }
     ensures { λ r. ⌜ r ≡ isFlat (was plan) k ⌝ }
 {
@@ -42,17 +42,32 @@ fn flat_below(plan: &[u64]) -> bool
     true
 }
 
-// Whether the root is a list-view that keeps no nulls, of numbers or byte strings that keep none.
-fn is_listed(plan: &[u64]) -> bool
-    ensures { λ r. ⌜ r ≡ isListed (was plan) ⌝ }
+// Whether node k is a list-view that keeps no nulls.
+fn is_nested(plan: &[u64], k: usize) -> bool
+    requires { ⌜ k < 32 ⌝ }
+    ensures { λ r. ⌜ r ≡ isNested (was plan) k ⌝ }
 {
-    if !schema::formats::is_list_view(plan_words::code_of(plan, 0)) {
+    if !schema::formats::is_list_view(plan_words::code_of(plan, k)) {
         return false;
     }
-    if plan_words::keeps_of(plan, 0) != 0 {
-        return false;
+    plan_words::keeps_of(plan, k) == 0
+}
+
+// Whether the root is such a list-view, of such list-views or of numbers or byte strings that keep none.
+fn is_listed(plan: &[u64]) -> bool
+    ensures { λ r. ⌜ r ≡ isListed (was plan) 7 0 ⌝ }
+{
+    let mut k: usize = 0;
+    while k < 7 {
+        if !is_nested(plan, k) {
+            return false;
+        }
+        k += 1;
+        if is_flat(plan, k) {
+            return true;
+        }
     }
-    is_flat(plan, 1)
+    false
 }
 
 // Whether the walk is written for a type: such a list-view, or a dense union of such nodes.
@@ -65,8 +80,8 @@ pub fn is_stretched(plan: &[u64]) -> bool
     is_listed(plan)
 }
 
-// The data of the rows slot .. slot + n - 1.
-fn copy_data(
+// The rows a .. a + n - 1 of a dense union.
+fn copy_union(
     plan: &[u64],
     parts: &[u64],
     lengths: &[u64],
@@ -76,30 +91,17 @@ fn copy_data(
     room: &mut [u8],
     write: bool,
     first: usize,
-    slot: u64,
+    a: u64,
     n: u64,
 ) -> u8
-    requires { ⌜ (first < 2 ^ 32) × (slot + n < 2 ^ 63) × (isStretched (now plan) ≡ true) ⌝ }
-    ensures { λ g. ⌜ ((source : ℕ) → let j = lentJoin plan parts lengths places body first source in Walks plan parts write (batchData j (batchLeaf j) (codeOf (was plan) 0) 0 slot n) counters room g) ⌝ }
+    requires { ⌜ (first < 2 ^ 32) × (isStretched (now plan) ≡ true) × (codeOf (now plan) 0 ≡ 22) ⌝ }
+    ensures { λ g. ⌜ ((source : ℕ) → Walks plan parts write (batchWalk (lentJoin plan parts lengths places body first source) 0 a n) counters room g) ⌝ }
 {
-    if plan_words::code_of(plan, 0) == 22 {
-        return dense_union::copy_dense(
-            plan,
-            parts,
-            lengths,
-            places,
-            body,
-            counters,
-            room,
-            write,
-            first,
-            0,
-            slot,
-            n,
-        );
+    let slot = lookups::slot_of(lengths, first, 0, a, n);
+    if plan_words::FAR <= slot {
+        return 12;
     }
-    let w = lookups::width_at(plan, 0);
-    list_view::copy_list_view(
+    let g = dense_union::copy_dense(
         plan,
         parts,
         lengths,
@@ -110,10 +112,14 @@ fn copy_data(
         write,
         first,
         0,
-        w,
         slot,
         n,
-    )
+    );
+    if g != 0 {
+        return g;
+    }
+    plan_words::add_rows(counters, 0, n);
+    0
 }
 
 // The rows a .. a + n - 1.
@@ -133,11 +139,22 @@ pub fn copy_by_stretches(
     requires { ⌜ (first < 2 ^ 32) × (isStretched (now plan) ≡ true) ⌝ }
     ensures { λ g. ⌜ ((source : ℕ) → Walks plan parts write (batchWalk (lentJoin plan parts lengths places body first source) 0 a n) counters room g) ⌝ }
 {
-    let slot = lookups::slot_of(lengths, first, 0, a, n);
-    if plan_words::FAR <= slot {
-        return 12;
+    if plan_words::code_of(plan, 0) == 22 {
+        return copy_union(
+            plan,
+            parts,
+            lengths,
+            places,
+            body,
+            counters,
+            room,
+            write,
+            first,
+            a,
+            n,
+        );
     }
-    let g = copy_data(
+    nested_views::copy_node(
         plan,
         parts,
         lengths,
@@ -147,12 +164,9 @@ pub fn copy_by_stretches(
         room,
         write,
         first,
-        slot,
+        0,
+        a,
         n,
-    );
-    if g != 0 {
-        return g;
-    }
-    plan_words::add_rows(counters, 0, n);
-    0
+        6,
+    )
 }

@@ -7,6 +7,7 @@ mod gather;
 mod homes;
 mod list_view;
 mod listed;
+mod nested_views;
 mod numbers;
 pub mod rise;
 mod short_copy;

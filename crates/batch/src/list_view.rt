@@ -5,14 +5,17 @@ ghost use mathlib.Core.List.{List, []};
 ghost use Prim.Native.Nat.{ℕ, suc, _+_, _*_, _-_, _<_, _≤_, _^_};
 ghost use lib.ListN.{length};
 ghost use lib.Dec.{ltb};
-ghost use Rattle.clauses.specs.Slices.{was};
+ghost use Rattle.clauses.specs.Slices.{was, left};
 ghost use Rattle.number.specs.Number.{entry};
 ghost use Rattle.walk.specs.State.{place};
+ghost use Rattle.walk.specs.Log.{Did};
+ghost use Rattle.walk.specs.Copy.{Walk};
 ghost use Rattle.leaf_walk.specs.Join.{join};
-ghost use Rattle.leaf_walk.specs.Walks.{lentJoin, Walks};
+ghost use Rattle.leaf_walk.specs.Walks.{lentJoin, AnyLengths, Walks};
 ghost use Rattle.batch.specs.Stretch.{sumOf, stretches};
 ghost use Rattle.batch.specs.Batch.{owned, batchLeaf, batchListView};
 ghost use Rattle.batch.specs.batch_walk.Plain.{isPlain, isFlat, reached};
+ghost use Rattle.batch.specs.batch_walk.Head.{Named, Rests, rowsOf};
 ghost use Rattle.batch.specs.batch_walk.Side.{furthestOf};
 use crate::listed;
 use crate::numbers;
@@ -218,7 +221,7 @@ fn copy_numbers(
 }
 
 // The stretches of a child of numbers or byte strings, which have `total` rows together.
-fn copy_rows(
+pub fn copy_rows(
     plan: &[u64],
     parts: &[u64],
     lengths: &[u64],
@@ -275,14 +278,29 @@ fn copy_rows(
     )
 }
 
-// A list-view with offsets of w bytes, whose child is of numbers or byte strings without validity.
-pub fn copy_list_view(
+// What stands before the rows of a list-view's child: a ground, and how many rows its sizes name together.
+pub struct Head {
+    pub ground: u8,
+    pub total: u64,
+}
+
+// No rows, for a ground.
+fn refused(g: u8) -> Head
+    ensures { λ t. ⌜ t .ground ≡ g ⌝ }
+{
+    Head {
+        ground: g,
+        total: 0,
+    }
+}
+
+// The offsets and sizes of a list-view with offsets of w bytes.
+pub fn put_head(
     plan: &[u64],
     parts: &[u64],
-    lengths: &[u64],
     places: &[u64],
     body: &[u8],
-    counters: &mut [u64; plan_words::COUNTERS],
+    counters: &[u64; plan_words::COUNTERS],
     room: &mut [u8],
     write: bool,
     first: usize,
@@ -290,22 +308,24 @@ pub fn copy_list_view(
     w: u64,
     slot: u64,
     n: u64,
-) -> u8
-    requires { ⌜ (first < 2 ^ 32) × (i + 1 < 32) × (slot + n < 2 ^ 63) × (isFlat (now plan) (suc i) ≡ true) ⌝ }
+) -> Head
+    requires { ⌜ (first < 2 ^ 32) × (i + 1 < 32) × (slot + n < 2 ^ 63) ⌝ }
     requires { ⌜ ((w ≡ 4 → ⊥) → w ≡ 8) ⌝ }
-    ensures { λ g. ⌜ ((source : ℕ) → let j = lentJoin plan parts lengths places body first source in Walks plan parts write (batchListView j (batchLeaf j) w i slot n) counters room g) ⌝ }
+    ensures { λ t. ⌜ ((t .ground ≡ 0 → ⊥) → AnyLengths plan parts places body first (λ j. (child : Walk) → Did (was plan) (was parts) write (batchListView j child w i slot n (was counters)) (was room) (t .ground) (was counters) (left room))) ⌝ }
+    ensures { λ t. ⌜ (t .ground ≡ 0 → Named (was body) (place (join [] [] [] (was places) [] first 0) i 3) (place (join [] [] [] (was places) [] first 0) i 5) w slot n (t .total)) ⌝ }
+    ensures { λ t. ⌜ (t .ground ≡ 0 → AnyLengths plan parts places body first (λ j. (child : Walk) → Rests (was plan) (was parts) write (batchListView j child w i slot n (was counters)) (was room) (rowsOf j child w i slot n (was counters)) (left room))) ⌝ }
 {
     if !has_child(plan, i) {
-        return 12;
+        return refused(12);
     }
     if !nested_rows::pairs_in(places, body, first, i, w, w, slot, n) {
-        return 12;
+        return refused(12);
     }
     let sizes = lent_tables::place(places, first + i, 5);
     let rows = plan_words::rows_of(counters, i + 1);
     let sum = sizes::sum_sizes(body, sizes, w, slot, n, rows);
     if !sizes::is_offset(w, sum) {
-        return 6;
+        return refused(6);
     }
     let o = plan_words::scale(plan_words::rows_of(counters, i), w);
     sizes::put_sums(
@@ -335,20 +355,6 @@ pub fn copy_list_view(
         from as usize,
         w * n,
     );
-    copy_rows(
-        plan,
-        parts,
-        lengths,
-        places,
-        body,
-        counters,
-        room,
-        write,
-        first,
-        i,
-        w,
-        slot,
-        n,
-        sum - rows,
-    )
+    let total = sum - rows;
+    Head { ground: 0, total }
 }

@@ -6,16 +6,15 @@ use Prim.Native.Nat.{ℕ, zero, suc, _+_, _*_, _-_, _≤_, _<_, min}
 use native.Mathlib.Omega.{arith}
 use lib.ListN.{length, take, drop}
 use lib.Dec.{leb, ltb, eqb}
-use borrow.Author.Tests.{lt-ltb, le-ltb, lt-leb, eq-eqb, ne-eqb, leb-true, ltb-true, ltb-false, eqb-true, eqb-false}
-use Rattle.array_data.proofs.lent_tables.Laws.{no, yes, is-none, is-some}
+use borrow.Author.Tests.{lt-ltb, le-ltb, eq-eqb, ne-eqb, leb-true, ltb-true, ltb-false, eqb-true, eqb-false}
+use Rattle.array_data.proofs.lent_tables.Laws.{no, yes}
 use Rattle.number.specs.Number.{entry}
 use Rattle.columnar.specs.Types.{half}
 use Rattle.columnar.specs.Test.{every}
 use Rattle.plan.proofs.parts.Placed.{every-at}
-use Rattle.schema.specs.formats.Code.{isFixed, isString, isListView}
 use Rattle.utils.specs.Pieces.{numbers}
-use Rattle.walk.specs.State.{Join, codeOf, endOf, keepsOf, bytesOf, rows, addRows, grown, scaled, top, place, far, slotOf, rowsIn}
-use Rattle.walk.specs.Log.{Out, Did, put, applyIf, done, wrote, need, found, next}
+use Rattle.walk.specs.State.{Join, codeOf, endOf, rows, addRows, grown, scaled, top, place, far, slotOf, rowsIn}
+use Rattle.walk.specs.Log.{Out, Did, put, applyIf, done, need, found, next}
 use Rattle.walk.specs.Leaves.{copyMask}
 use Rattle.walk.specs.Copy.{Walk, masked}
 use Rattle.walk.proofs.Laws.{done-did, need-no, need-ok, found-no, found-ok, next-no, next-ok}
@@ -25,7 +24,7 @@ use Rattle.batch.specs.Dense.{batchDense}
 use Rattle.batch.specs.Batch.{owned, batchLeaf, batchListView, batchData, batchSlots, batchNode, batchBelow, batchWalk}
 use Rattle.batch.proofs.Ends.{need-is}
 use Rattle.batch.proofs.Stretches.{and-left, and-right}
-use Rattle.batch.specs.batch_walk.Plain.{isPlain, isText, isFlat, isListed, flatBelow, isStretched}
+use Rattle.batch.specs.batch_walk.Plain.{isFlat, isListed, flatBelow, isStretched}
 
 -- ---- what a type says
 
@@ -34,15 +33,6 @@ every-fewer p zero n h e = refl
 every-fewer p (suc m) n h e = rw (every-fewer p m n (omega arith) e, every-at p n e m (omega arith)) refl
 
 module _ (S : List ℕ) where
-  pub not-listed : {code : ℕ} {r : Bool} → code ≡ codeOf S 0 → r ≡ isListView code → not r ≡ true → false ≡ isListed S
-  not-listed e q h = let f : isListView (codeOf S 0) ≡ false = rw e at (no q h) in rw f refl
-
-  pub not-kept : {code v : ℕ} {r : Bool} → code ≡ codeOf S 0 → r ≡ isListView code → not r ≡ false → v ≡ keepsOf S 0 → (v ≡ 0 → ⊥) → false ≡ isListed S
-  not-kept e q h p g = let f : isListView (codeOf S 0) ≡ true = rw e at (yes q h) in rw (f, is-some p g) refl
-
-  pub of-flat : {code v : ℕ} {r t : Bool} → code ≡ codeOf S 0 → r ≡ isListView code → not r ≡ false → v ≡ keepsOf S 0 → v ≡ 0 → t ≡ isFlat S 1 → t ≡ isListed S
-  of-flat e q h p g o = let f : isListView (codeOf S 0) ≡ true = rw e at (yes q h) in rw (f, is-none p g) o
-
   -- ---- the nodes below the root
 
   abbrev flatFrom : ℕ → Bool
@@ -76,7 +66,7 @@ module _ (S : List ℕ) where
   pub of-dense : {code : ℕ} {t : Bool} → code ≡ codeOf S 0 → code ≡ 22 → t ≡ flatBelow S → t ≡ isStretched S
   of-dense e f g = rw (eq-eqb (codeOf S 0) 22 (sym e ∙ f)) g
 
-  pub of-list : {code : ℕ} {t : Bool} → code ≡ codeOf S 0 → (code ≡ 22 → ⊥) → t ≡ isListed S → t ≡ isStretched S
+  pub of-list : {code : ℕ} {t : Bool} → code ≡ codeOf S 0 → (code ≡ 22 → ⊥) → t ≡ isListed S 7 0 → t ≡ isStretched S
   of-list e f g = rw (ne-eqb (codeOf S 0) 22 (λ z. f (e ∙ z))) g
 
   module _ (is : isStretched S ≡ true) where
@@ -86,41 +76,10 @@ module _ (S : List ℕ) where
         let z : suc (j - 1) ≡ j = omega arith in
         subst (λ v. isFlat S v ≡ true) z (every-at flatFrom (endOf S 0 - 1) g (j - 1) (omega arith))
 
-    pub list-is : {code : ℕ} → code ≡ codeOf S 0 → (code ≡ 22 → ⊥) → isListed S ≡ true
+    pub list-is : {code : ℕ} → code ≡ codeOf S 0 → (code ≡ 22 → ⊥) → isListed S 7 0 ≡ true
     list-is e f = rw (ne-eqb (codeOf S 0) 22 (λ z. f (e ∙ z))) at is
 
-  module _ (is : isListed S ≡ true) where
-    pub listed : isListView (codeOf S 0) ≡ true
-    listed = and-left (isListView (codeOf S 0)) _ is
-
-    pub keeps-none : eqb (keepsOf S 0) 0 ≡ true
-    keeps-none = and-left (eqb (keepsOf S 0) 0) _ (and-right (isListView (codeOf S 0)) _ is)
-
-    pub child-flat : isFlat S 1 ≡ true
-    child-flat = and-right (eqb (keepsOf S 0) 0) _ (and-right (isListView (codeOf S 0)) _ is)
-
-  -- numbers and byte strings are no lists
-  pub flat-leaf : (k : ℕ) → isFlat S k ≡ true → isListView (codeOf S k) ≡ false
-  flat-leaf k h = rw (lt-leb 17 (codeOf S k) (low (isText S k) refl h))
-    where
-      low : (t : Bool) → isText S k ≡ t → cond t true (isPlain S k) ≡ true → codeOf S k < 17
-      low true e h = let g = leb-true (codeOf S k) 14 (and-right (leb 11 (codeOf S k)) _ (and-left (isString (codeOf S k)) _ e)) in omega arith
-      low false e h = let g = leb-true (codeOf S k) 10 (and-right (leb 1 (codeOf S k)) _ (and-left (isFixed (codeOf S k)) _ h)) in omega arith
-
 -- ---- its data
-
--- by another walk of its child
-pub list-as : (x : Join) (w i slot n : ℕ) (c : List ℕ) (below other : Walk) → _≡_ {A = ℕ → ℕ → List ℕ → Out} (λ a m d. below (suc i) a m d) (λ a m d. other (suc i) a m d)
-    → batchListView x below w i slot n c ≡ batchListView x other w i slot n c
-unfolding batchListView
-list-as x w i slot n c below other e =
-    ap (λ f.
-    need (ltb (suc i) 32 && (owned (x .plan) i && owned (x .plan) (suc i))) 12 c
-    (need (rowsIn x (place x i 3) w slot n && rowsIn x (place x i 5) w slot n) 12 c
-    (need (ltb (rows c (suc i) + sumOf (λ r. entry w (x .body) (place x i 5) (slot + r)) n) (half w)) 6 c
-    (next (wrote (put i 1 (rows c i * w) (numbers w (λ r. rows c (suc i) + sumOf (λ q. entry w (x .body) (place x i 5) (slot + q)) r) n)) c)
-    (λ c2. next (wrote (put i 2 (rows c2 i * w) (take (w * n) (drop (place x i 5 + w * slot) (x .body)))) c2)
-    (λ c3. stretches f (λ r. entry w (x .body) (place x i 3) (slot + r)) (λ r. entry w (x .body) (place x i 5) (slot + r)) n c3)))))) e
 
 pub offset-same : (w v s : ℕ) → half w ≤ top → ltb (grown v s) (half w) ≡ ltb (v + s) (half w)
 unfolding grown
@@ -156,12 +115,12 @@ sum-parts x i w slot n {at} {k} {sum} {t} big p u v l =
     let z : sumOf (λ y. entry w (x .body) at (slot + y)) n ≡ sumOf (λ y. entry w (x .body) (place x i 5) (slot + y)) n = ap (λ z. sumOf (λ y. entry w (x .body) z (slot + y)) n) p in
     (omega arith, omega arith, omega arith, omega arith)
 
-module _ (x : Join) (i w slot n : ℕ) (wr : Bool) (c room : List ℕ) where
+module _ (x : Join) (child : Walk) (i w slot n : ℕ) (wr : Bool) (c room : List ℕ) where
   abbrev size : ℕ → ℕ
   size r = entry w (x .body) (place x i 5) (slot + r)
 
   abbrev List-view : Out
-  List-view = batchListView x (batchLeaf x) w i slot n c
+  List-view = batchListView x child w i slot n c
 
   module _ {r : Bool} (e : r ≡ (ltb (suc i) 32 && (owned (x .plan) i && owned (x .plan) (suc i)))) where
     pub list-childless : not r ≡ true → Did (x .plan) (x .parts) wr List-view room 12 c room
@@ -189,7 +148,7 @@ module _ (x : Join) (i w slot n : ℕ) (wr : Bool) (c room : List ℕ) where
         pub list-goes : not t ≡ false → length room < top → {o j : ℕ} {room1 room2 : List ℕ} {a : ℕ} {c2 room3 : List ℕ} → j ≡ rows c i → o ≡ scaled j w
             → room1 ≡ applyIf (x .plan) (x .parts) wr (put i 1 o (numbers w (λ r. k + sumOf (λ y. entry w (x .body) at (slot + y)) r) n) ∷ []) room → length room1 < top
             → room2 ≡ applyIf (x .plan) (x .parts) wr (put i 2 o (take (w * n) (drop (at + w * slot) (x .body))) ∷ []) room1
-            → Did (x .plan) (x .parts) wr (stretches (λ a m d. batchLeaf x (suc i) a m d) (λ r. entry w (x .body) (place x i 3) (slot + r)) size n c) room2 a c2 room3
+            → Did (x .plan) (x .parts) wr (stretches (λ a m d. child (suc i) a m d) (λ r. entry w (x .body) (place x i 3) (slot + r)) size n c) room2 a c2 room3
             → Did (x .plan) (x .parts) wr List-view room a c2 room3
         unfolding batchListView
         list-goes l small {o} {j} {room1} {room2} m y one small1 two d =
@@ -204,75 +163,55 @@ module _ (x : Join) (i w slot n : ℕ) (wr : Bool) (c room : List ℕ) where
 
 -- ---- the whole node
 
-module _ (x : Join) where
+done-next : (c : List ℕ) (f : List ℕ → Out) → next (done c) f ≡ f c
+unfolding next done
+done-next c f = refl
+
+module _ (x : Join) (child : Walk) (k : ℕ) where
   abbrev C : ℕ
-  C = codeOf (x .plan) 0
+  C = codeOf (x .plan) k
 
-  abbrev W : ℕ
-  W = bytesOf (x .plan) 0
+  -- its validity: none is written
+  abbrev pub Maskless : Type 0
+  Maskless = (slot n : ℕ) (c : List ℕ) → cond (masked C) (copyMask x k slot n c) (done c) ≡ done c
 
-  -- a list-view's data, and a dense union's
-  module _ {wr : Bool} (slot n : ℕ) (c : List ℕ) {room : List ℕ} {code g : ℕ} {c2 room2 : List ℕ} (e : code ≡ C) where
-    pub data-list : isListed (x .plan) ≡ true → {w : ℕ} → w ≡ W → Did (x .plan) (x .parts) wr (batchListView x (batchLeaf x) w 0 slot n c) room g c2 room2
-        → Did (x .plan) (x .parts) wr (batchData x (batchLeaf x) C 0 slot n c) room g c2 room2
-    unfolding batchData
-    data-list is f d = rw (listed (x .plan) is) (rw f at d)
-
-    pub data-dense : code ≡ 22 → Did (x .plan) (x .parts) wr (batchDense x (batchLeaf x) 0 slot n c) room g c2 room2
-        → Did (x .plan) (x .parts) wr (batchData x (batchLeaf x) C 0 slot n c) room g c2 room2
-    unfolding batchData
-    data-dense f d = let h : C ≡ 22 = sym e ∙ f in rw h d
-
-  module _ (is : isStretched (x .plan) ≡ true) where
-    mask-is : (slot n : ℕ) (c : List ℕ) → cond (masked C) (copyMask x 0 slot n c) (done c) ≡ done c
-    unfolding copyMask
-    mask-is slot n c = go (eqb C 22) refl
-      where
-        go : (t : Bool) → eqb C 22 ≡ t → cond (masked C) (copyMask x 0 slot n c) (done c) ≡ done c
-        go true q = rw (le-ltb C 21 (let h = eqb-true C 22 q in omega arith)) refl
-        go false q =
-            let l = list-is (x .plan) is refl (eqb-false C 22 q) in
-            let m : masked C ≡ true = lt-ltb C 21 (let h = leb-true C 18 (and-right (leb 17 C) _ (listed (x .plan) l)) in omega arith) in
-            rw (m, keeps-none (x .plan) l) refl
-
-    done-next : (c : List ℕ) (f : List ℕ → Out) → next (done c) f ≡ f c
-    unfolding next done
-    done-next c f = refl
-
-    below-is : isListed (x .plan) ≡ true → (a m : ℕ) (d : List ℕ) → batchBelow x 6 1 a m d ≡ batchLeaf x 1 a m d
-    unfolding batchBelow
-    below-is l a m d = rw (flat-leaf (x .plan) 1 (child-flat (x .plan) l))
-
-    data-as : (slot n : ℕ) (c : List ℕ) → batchData x (batchBelow x 6) C 0 slot n c ≡ batchData x (batchLeaf x) C 0 slot n c
-    unfolding batchData
-    data-as slot n c = go (eqb C 22) refl
-      where
-        go : (t : Bool) → eqb C 22 ≡ t → batchData x (batchBelow x 6) C 0 slot n c ≡ batchData x (batchLeaf x) C 0 slot n c
-        go true q = rw (eqb-true C 22 q) refl
-        go false q =
-            let l = list-is (x .plan) is refl (eqb-false C 22 q) in
-            rw (listed (x .plan) l) (list-as x W 0 slot n c (batchBelow x 6) (batchLeaf x) (fun-ext (λ a. fun-ext (λ m. fun-ext (λ d. below-is l a m d)))))
-
-    slots-is : (n : ℕ) (c : List ℕ) (slot : ℕ) → batchSlots x (batchBelow x 6) 0 slot n c ≡ next (batchData x (batchLeaf x) C 0 slot n c) (λ c2. done (addRows 0 n c2))
+  module _ (within : k < 32) (mask : Maskless) where
+    slots-is : (n : ℕ) (c : List ℕ) (slot : ℕ) → batchSlots x child k slot n c ≡ next (batchData x child C k slot n c) (λ c2. done (addRows k n c2))
     unfolding batchSlots
     slots-is n c slot =
-        ap (λ o. next o (λ c2. next (batchData x (batchBelow x 6) C 0 slot n c2) (λ c3. done (addRows 0 n c3)))) (mask-is slot n c)
-        ∙ done-next c (λ c2. next (batchData x (batchBelow x 6) C 0 slot n c2) (λ c3. done (addRows 0 n c3)))
-        ∙ ap (λ o. next o (λ c3. done (addRows 0 n c3))) (data-as slot n c)
+        ap (λ o. next o (λ c2. next (batchData x child C k slot n c2) (λ c3. done (addRows k n c3)))) (mask slot n c)
+        ∙ done-next c (λ c2. next (batchData x child C k slot n c2) (λ c3. done (addRows k n c3)))
 
-    node-is : (a n : ℕ) (c : List ℕ) → batchWalk x 0 a n c ≡ found far (slotOf x 0 a n) 12 c (λ slot. next (batchData x (batchLeaf x) C 0 slot n c) (λ c2. done (addRows 0 n c2)))
-    unfolding batchWalk batchNode
+    node-is : (a n : ℕ) (c : List ℕ) → batchNode x child k a n c ≡ found far (slotOf x k a n) 12 c (λ slot. next (batchData x child C k slot n c) (λ c2. done (addRows k n c2)))
+    unfolding batchNode
     node-is a n c =
-        need-is 12 c (found far (slotOf x 0 a n) 12 c (λ slot. batchSlots x (batchBelow x 6) 0 slot n c)) (lt-ltb 0 32 (omega arith))
-        ∙ ap (found far (slotOf x 0 a n) 12 c) (fun-ext (λ slot. slots-is n c slot))
+        need-is 12 c (found far (slotOf x k a n) 12 c (λ slot. batchSlots x child k slot n c)) (lt-ltb k 32 within)
+        ∙ ap (found far (slotOf x k a n) 12 c) (fun-ext (λ slot. slots-is n c slot))
 
-    module _ (a n : ℕ) (wr : Bool) (c room : List ℕ) {s : ℕ} (e : s ≡ slotOf x 0 a n) where
-      pub node-far : far ≤ s → Did (x .plan) (x .parts) wr (batchWalk x 0 a n c) room 12 c room
+    module _ (a n : ℕ) (wr : Bool) (c room : List ℕ) {s : ℕ} (e : s ≡ slotOf x k a n) where
+      pub node-far : far ≤ s → Did (x .plan) (x .parts) wr (batchNode x child k a n c) room 12 c room
       node-far h = rw (node-is a n c) (found-no _ e h)
 
-      module _ (h : s < far) {g : ℕ} {c2 room2 : List ℕ} (d : Did (x .plan) (x .parts) wr (batchData x (batchLeaf x) C 0 s n c) room g c2 room2) where
-        pub node-stop : (g ≡ 0 → ⊥) → Did (x .plan) (x .parts) wr (batchWalk x 0 a n c) room g c2 room2
+      module _ (h : s < far) {g : ℕ} {c2 room2 : List ℕ} (d : Did (x .plan) (x .parts) wr (batchData x child C k s n c) room g c2 room2) where
+        pub node-stop : (g ≡ 0 → ⊥) → Did (x .plan) (x .parts) wr (batchNode x child k a n c) room g c2 room2
         node-stop l = rw (node-is a n c) (found-ok 12 c _ e h (next-no _ d l))
 
-        pub node-done : g ≡ 0 → {c3 : List ℕ} → c3 ≡ addRows 0 n c2 → Did (x .plan) (x .parts) wr (batchWalk x 0 a n c) room 0 c3 room2
+        pub node-done : g ≡ 0 → {c3 : List ℕ} → c3 ≡ addRows k n c2 → Did (x .plan) (x .parts) wr (batchNode x child k a n c) room 0 c3 room2
         node-done l q = rw (node-is a n c) (found-ok 12 c _ e h (next-ok _ d l (rw q (done-did wr _ room2))))
+
+-- ---- a dense union, which is a root
+
+module _ (x : Join) (is : codeOf (x .plan) 0 ≡ 22) where
+  pub dense-mask : (child : Walk) → Maskless x child 0
+  unfolding copyMask
+  dense-mask child slot n c = rw (le-ltb (codeOf (x .plan) 0) 21 (omega arith)) refl
+
+  pub data-dense : (child : Walk) {wr : Bool} (slot n : ℕ) (c : List ℕ) {room : List ℕ} {g : ℕ} {c2 room2 : List ℕ} → Did (x .plan) (x .parts) wr (batchDense x (batchLeaf x) 0 slot n c) room g c2 room2
+      → Did (x .plan) (x .parts) wr (batchData x child (codeOf (x .plan) 0) 0 slot n c) room g c2 room2
+  unfolding batchData
+  data-dense child slot n c d = rw is d
+
+-- the walk is its root's
+pub walk-is : (x : Join) (i a n : ℕ) (c : List ℕ) → batchWalk x i a n c ≡ batchNode x (batchBelow x 6) i a n c
+unfolding batchWalk
+walk-is x i a n c = refl

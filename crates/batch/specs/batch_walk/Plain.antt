@@ -1,7 +1,7 @@
 -- Children whose stretches are copies of bytes, or of offsets and bytes. Assumes nothing.
-use mathlib.Core.Bool.{Bool, true, cond, _&&_}
+use mathlib.Core.Bool.{Bool, true, false, cond, _&&_}
 use mathlib.Core.List.{List}
-use Prim.Native.Nat.{ℕ, suc, _+_, _*_, _-_}
+use Prim.Native.Nat.{ℕ, zero, suc, _+_, _*_, _-_}
 use lib.Dec.{ltb, eqb}
 use Rattle.columnar.specs.Test.{every}
 use Rattle.schema.specs.formats.Code.{isFixed, isString, isListView}
@@ -29,9 +29,14 @@ steadyString x k w slot n c = need (neverFalls w (x .body) (place x k 3 + w * sl
 unfoldable pub reached : Join → ℕ → ℕ → ℕ → Bool
 reached x k w end = ltb (slotOf x k end 0) far && rowsIn x (place x k 3) w (slotOf x k end 0) 0
 
--- the root is a list-view that keeps no nulls, of numbers or byte strings that keep none
-abbrev pub isListed : List ℕ → Bool
-isListed plan = isListView (codeOf plan 0) && (eqb (keepsOf plan 0) 0 && isFlat plan 1)
+-- node k is a list-view that keeps no nulls
+abbrev pub isNested : List ℕ → ℕ → Bool
+isNested plan k = isListView (codeOf plan k) && eqb (keepsOf plan k) 0
+
+-- .. and is at most `depth` such list-views over numbers or byte strings that keep none
+unfoldable pub isListed : List ℕ → ℕ → ℕ → Bool
+isListed plan zero k = false
+isListed plan (suc depth) k = isNested plan k && cond (isFlat plan (suc k)) true (isListed plan depth (suc k))
 
 -- the nodes below the root are of numbers or byte strings, and keep no nulls
 abbrev pub flatBelow : List ℕ → Bool
@@ -39,4 +44,4 @@ flatBelow plan = every (λ j. isFlat plan (suc j)) (endOf plan 0 - 1)
 
 -- the root is such a list-view, or a dense union of such nodes
 abbrev pub isStretched : List ℕ → Bool
-isStretched plan = cond (eqb (codeOf plan 0) 22) (flatBelow plan) (isListed plan)
+isStretched plan = cond (eqb (codeOf plan 0) 22) (flatBelow plan) (isListed plan 7 0)

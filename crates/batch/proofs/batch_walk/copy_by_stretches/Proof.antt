@@ -1,46 +1,34 @@
--- `batch_walk::copy_by_stretches` meets its contract. Assumes nothing.
-use mathlib.Core.Path.{_≡_, refl}
-use mathlib.Core.List.{[]}
-use Prim.Native.Nat.{_+_, _<_}
-use Rattle.walk.specs.State.{far}
+-- `batch::batch_walk::copy_by_stretches` meets its contract. Assumes nothing.
+use mathlib.Core.Path.{_≡_, sym, _∙_}
+use native.Mathlib.Omega.{arith}
 use Rattle.leaf_walk.specs.Join.{join}
-use Rattle.nested_rows.proofs.lookups.Laws.{slot-rows}
-use Rattle.batch.proofs.batch_walk.Node.{node-far, node-stop, node-done}
+use Rattle.batch.proofs.batch_walk.Node.{list-is, walk-is}
 use borrow.Author.Needs.{needs}
 use Rattle.batch.proofs.batch_walk.copy_by_stretches.Statement.{statement}
 use Rattle.batch.proofs.batch_walk.copy_by_stretches.Tie as tie
 
-slot-of-requires : tie.Need-slot-of-requires
-slot-of-requires c κs = search needs
+code-of-requires : tie.Need-code-of-requires
+code-of-requires c κs = search needs
 
-returns : tie.Need-returns
-returns c =
-    let a = c .before .before .before .before .before .before .before .before .args in
-    λ source. node-far (join (a .plan .now) (a .parts .now) (a .lengths .now) (a .places .now) (a .body .now) (a .first) source) (c .before .before .before .before .before .before .before .before .pre .1) (a .a) (a .n) (a .write) (a .counters .now) (a .room .now) (c .before .slot-of .ensures (a .plan .now) (a .parts .now) (a .places .now) (a .body .now) source) (c .if1 .taken)
-
-copy-data-requires : tie.Need-copy-data-requires
-copy-data-requires c κs =
-    let a = c .before .before .before .before .before .before .before .before .before .before .args in
-    (c .before .before .before .before .before .before .before .before .before .before .pre .0, slot-rows (join [] [] (a .lengths .now) [] [] (a .first) 0) 0 (a .a) (a .n) (c .before .before .before .slot-of .ensures [] [] [] [] 0) (c .before .before .if1 .left), c .before .before .before .before .before .before .before .before .before .before .pre .1)
+copy-union-requires : tie.Need-copy-union-requires
+copy-union-requires c κs = (c .before .before .before .before .before .before .before .before .before .before .pre .0, c .before .before .before .before .before .before .before .before .before .before .pre .1, sym (c .before .before .before .code-of .ensures) ∙ c .before .before .if1 .taken)
 
 same-length : tie.Need-same-length
 same-length c = search needs
 
-returns-2 : tie.Need-returns-2
-returns-2 c =
-    let a = c .before .before .before .before .before .before .before .before .before .before .before .before .before .before .args in
-    λ source. node-stop (join (a .plan .now) (a .parts .now) (a .lengths .now) (a .places .now) (a .body .now) (a .first) source) (c .before .before .before .before .before .before .before .before .before .before .before .before .before .before .pre .1) (a .a) (a .n) (a .write) (a .counters .now) (a .room .now) (c .before .before .before .before .before .before .before .slot-of .ensures (a .plan .now) (a .parts .now) (a .places .now) (a .body .now) source) (c .before .before .before .before .before .before .if1 .left) (c .before .before .before .copy-data .ensures source) (c .if2 .taken)
+returns : tie.Need-returns
+returns c = c .before .before .copy-union .ensures
 
-add-rows-requires : tie.Need-add-rows-requires
-add-rows-requires c κs = search needs
+copy-node-requires : tie.Need-copy-node-requires
+copy-node-requires c κs = (c .before .before .before .before .before .before .before .before .before .before .pre .0, omega arith, list-is (c .before .before .before .before .before .before .before .before .before .before .args .plan .now) (c .before .before .before .before .before .before .before .before .before .before .pre .1) (c .before .before .before .code-of .ensures) (c .before .before .if1 .left))
 
 same-length-2 : tie.Need-same-length-2
 same-length-2 c = search needs
 
-returns-3 : tie.Need-returns-3
-returns-3 c =
-    let a = c .before .before .before .before .before .before .before .before .before .before .before .before .before .before .before .before .args in
-    λ source. node-done (join (a .plan .now) (a .parts .now) (a .lengths .now) (a .places .now) (a .body .now) (a .first) source) (c .before .before .before .before .before .before .before .before .before .before .before .before .before .before .before .before .pre .1) (a .a) (a .n) (a .write) (a .counters .now) (a .room .now) (c .before .before .before .before .before .before .before .before .before .slot-of .ensures (a .plan .now) (a .parts .now) (a .places .now) (a .body .now) source) (c .before .before .before .before .before .before .before .before .if1 .left) (c .before .before .before .before .before .copy-data .ensures source) (c .before .before .if2 .left) (c .add-rows .ensures)
+returns-2 : tie.Need-returns-2
+returns-2 c =
+    let a = c .before .before .before .before .before .before .before .before .before .before .before .before .before .args in
+    λ source. rw (walk-is (join (a .plan .now) (a .parts .now) (a .lengths .now) (a .places .now) (a .body .now) (a .first) source) 0 (a .a) (a .n) (a .counters .now)) (c .before .before .copy-node .ensures source)
 
 pub copy-by-stretches-spec : {M : Type 1} → statement M
-copy-by-stretches-spec = tie.close (tie.spec slot-of-requires returns copy-data-requires same-length returns-2 add-rows-requires same-length-2 returns-3)
+copy-by-stretches-spec = tie.close (tie.spec code-of-requires copy-union-requires same-length returns copy-node-requires same-length-2 returns-2)
