@@ -3,3 +3,4 @@ pub mod Plain
 pub mod Side
 pub mod Ends
 pub mod Fall
+pub mod Texts

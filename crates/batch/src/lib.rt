@@ -14,4 +14,5 @@ mod side;
 mod sizes;
 mod survey;
 mod text_lists;
+mod text_rows;
 mod texts;
