@@ -22,7 +22,7 @@ use nested_rows::lookups;
 use walk::plan_words;
 
 // The bytes of m rows from `slot` on, whose offsets of w bytes stand at `at`; the largest number where an offset falls or the last is above `most`.
-fn chars_of(body: &[u8], at: u64, w: u64, slot: u64, m: u64, most: u64) -> u64
+pub fn chars_of(body: &[u8], at: u64, w: u64, slot: u64, m: u64, most: u64) -> u64
     requires { ⌜ (at + w * slot + w * (m + 1) ≤ length (now body)) × (m < 2 ^ 63) ⌝ }
     requires { ⌜ ((w ≡ 4 → ⊥) → w ≡ 8) ⌝ }
     ensures { λ r. ⌜ ((r ≡ top → ⊥) → Rising w (was body) at most slot m × (r ≡ charsOf w (was body) at slot m)) ⌝ }

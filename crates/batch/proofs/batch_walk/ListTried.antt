@@ -120,3 +120,15 @@ told-did x i w slot n c room wr t {o} {z} {total} {c1} {c2} h e f g l d p q =
     go : (u : Bool) → not u ≡ true → {out : Out} → Did (x .plan) (x .parts) false out room 0 c2 room → Did (x .plan) (x .parts) u out room 0 c2 room
     go false y k = k
     go true y k = let z0 : _≡_ {A = ℕ} 0 1 = ap (λ b. cond b 1 0) y in absurd (omega arith)
+
+-- the same, by what a dense union says of it
+pub taken-did : (x : Join) (k : ℕ) (start size : ℕ → ℕ) (n : ℕ) (c room : List ℕ) (wr : Bool) (t : ℕ) {total : ℕ} {c1 c2 : List ℕ} → not wr ≡ true → total ≡ sumOf size n
+    → Did (x .plan) (x .parts) false (stretches (λ a m d. batchLeaf x k a m d) start size n c) room 0 (addRows k (sumOf size n) (setBytes k t c)) room
+    → c1 ≡ setBytes k t c → c2 ≡ addRows k total c1
+    → Did (x .plan) (x .parts) wr (stretches (λ a m d. batchLeaf x k a m d) start size n c) room 0 c2 room
+taken-did x k start size n c room wr t {total} {c1} {c2} h e d p q =
+    go wr h (subst (λ y. Did (x .plan) (x .parts) false (stretches (λ a m d. batchLeaf x k a m d) start size n c) room 0 y room) (sym (q ∙ ap (λ y. addRows k total y) p ∙ ap (λ y. addRows k y (setBytes k t c)) e)) d)
+  where
+    go : (u : Bool) → not u ≡ true → {out : Out} → Did (x .plan) (x .parts) false out room 0 c2 room → Did (x .plan) (x .parts) u out room 0 c2 room
+    go false y k2 = k2
+    go true y k2 = let z0 : _≡_ {A = ℕ} 0 1 = ap (λ b. cond b 1 0) y in absurd (omega arith)
