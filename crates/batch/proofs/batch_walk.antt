@@ -4,6 +4,10 @@ pub mod Sums
 pub mod Overlaps
 pub mod PlainLeaf
 pub mod TextLeaf
+pub mod FewRise
+pub mod Steady
+pub mod TextRows
+pub mod ListTried
 pub mod Loops
 pub mod Tried
 pub mod Gathered

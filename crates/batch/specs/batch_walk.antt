@@ -4,3 +4,4 @@ pub mod Side
 pub mod Head
 pub mod Ends
 pub mod Fall
+pub mod Texts

@@ -8,10 +8,12 @@ ghost use Rattle.clauses.specs.Slices.{was};
 ghost use Rattle.number.specs.Number.{entry};
 ghost use Rattle.walk.specs.Log.{Out};
 ghost use Rattle.leaf_walk.specs.Walks.{lentJoin, Walks};
-ghost use Rattle.batch.specs.Stretch.{stretches};
+ghost use Rattle.batch.specs.Stretch.{sumOf, stretches};
 ghost use Rattle.batch.specs.Batch.{batchLeaf};
 ghost use Rattle.batch.specs.batch_walk.Plain.{isText};
+ghost use Rattle.batch.specs.batch_walk.Side.{furthestOf};
 ghost use Rattle.batch.specs.batch_walk.Fall.{homeBy, takesOf, takesFrom};
+use crate::dense_rows;
 use crate::homes;
 use crate::texts;
 use nested_rows::lookups;
@@ -28,7 +30,7 @@ fn if_whole(whole: bool, v: u64) -> u64
 }
 
 // The rows of child k: all `total` from `begin` on if they are whole, else its stretches.
-pub fn copy_texts(
+fn copy_each(
     plan: &[u64],
     parts: &[u64],
     lengths: &[u64],
@@ -86,4 +88,80 @@ pub fn copy_texts(
         r = t.next + 1;
     }
     12
+}
+
+// The same, where they reach to `end`; a walk that only tries looks at rows that are not whole one by one.
+pub fn copy_texts(
+    plan: &[u64],
+    parts: &[u64],
+    lengths: &[u64],
+    places: &[u64],
+    body: &[u8],
+    counters: &mut [u64; plan_words::COUNTERS],
+    room: &mut [u8],
+    write: bool,
+    first: usize,
+    homes: &[u8; 256],
+    ids: u64,
+    positions: u64,
+    slot: u64,
+    n: u64,
+    k: usize,
+    whole: bool,
+    begin: u64,
+    total: u64,
+    end: u64,
+) -> u8
+    requires { ⌜ (first < 2 ^ 32) × (k < 32) × (isText (now plan) k ≡ true) ⌝ }
+    requires { ⌜ (ids + (slot + n) ≤ length (now body)) × (positions + 4 * (slot + n) ≤ length (now body)) × (slot + n < 2 ^ 63) ⌝ }
+    requires { ⌜ (total ≡ sumOf (takesOf (λ r. homeBy (now homes) (now body) (ids + (slot + r))) k) n) × (end ≡ furthestOf (λ q. takesFrom (λ r. homeBy (now homes) (now body) (ids + (slot + r))) (λ r. entry 4 (now body) positions (slot + r)) k q + takesOf (λ r. homeBy (now homes) (now body) (ids + (slot + r))) k q) n) ⌝ }
+    requires { ⌜ (whole ≡ true → (walk : ℕ → ℕ → List ℕ → Out) (c : List ℕ) → stretches walk (takesFrom (λ r. homeBy (now homes) (now body) (ids + (slot + r))) (λ r. entry 4 (now body) positions (slot + r)) k) (takesOf (λ r. homeBy (now homes) (now body) (ids + (slot + r))) k) n c ≡ walk begin total c) ⌝ }
+    ensures { λ g. ⌜ ((source : ℕ) → Walks plan parts write (stretches (λ a m d. batchLeaf (lentJoin plan parts lengths places body first source) k a m d) (takesFrom (λ r. homeBy (was homes) (was body) (ids + (slot + r))) (λ r. entry 4 (was body) positions (slot + r)) k) (takesOf (λ r. homeBy (was homes) (was body) (ids + (slot + r))) k) n) counters room g) ⌝ }
+{
+    if !write {
+        if !whole {
+            let v = lookups::width_at(plan, k);
+            let t = dense_rows::taken_tried(
+                plan,
+                lengths,
+                places,
+                body,
+                counters,
+                first,
+                homes,
+                ids,
+                positions,
+                slot,
+                n,
+                k,
+                v,
+                end,
+            );
+            if t != u64::MAX {
+                plan_words::set_bytes(counters, k, t);
+                plan_words::add_rows(counters, k, total);
+                return 0;
+            }
+        }
+    }
+    copy_each(
+        plan,
+        parts,
+        lengths,
+        places,
+        body,
+        counters,
+        room,
+        write,
+        first,
+        homes,
+        ids,
+        positions,
+        slot,
+        n,
+        k,
+        whole,
+        begin,
+        total,
+    )
 }

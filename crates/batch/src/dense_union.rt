@@ -151,6 +151,7 @@ fn copy_child(
             whole,
             begin,
             total,
+            end,
         );
     }
     let w = lookups::width_at(plan, k);

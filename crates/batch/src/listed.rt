@@ -47,7 +47,7 @@ fn first_of(n: u64) -> u64
 }
 
 // Whether most of the first rows do not start where the one before ends: which way is taken hangs on it, not what is written.
-fn is_shuffled(body: &[u8], offsets: u64, sizes: u64, w: u64, slot: u64, n: u64) -> bool
+pub fn is_shuffled(body: &[u8], offsets: u64, sizes: u64, w: u64, slot: u64, n: u64) -> bool
     requires { ⌜ (offsets + w * (slot + n) ≤ length (now body)) × (sizes + w * (slot + n) ≤ length (now body)) × (slot + n < 2 ^ 63) ⌝ }
     requires { ⌜ ((w ≡ 4 → ⊥) → w ≡ 8) ⌝ }
 {

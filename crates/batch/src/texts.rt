@@ -2,7 +2,7 @@
 ghost use mathlib.Core.Path.{_≡_};
 ghost use mathlib.Core.Bool.{true};
 ghost use mathlib.Core.List.{List, [], _∷_};
-ghost use Prim.Native.Nat.{ℕ, _+_, _*_, _<_, _≤_, _^_};
+ghost use Prim.Native.Nat.{ℕ, _+_, _*_, _<_, _≤_, _^_, min};
 ghost use lib.ListN.{length, take, drop};
 ghost use Rattle.clauses.specs.Slices.{was, left};
 ghost use Rattle.utils.specs.Extension.{extended};
@@ -71,16 +71,60 @@ fn rises_by(body: &[u8], from: u64, w: u64, n: u64) -> bool
     true
 }
 
+// The smaller of two numbers.
+fn smaller(n: u64, j: u64) -> u64
+    ensures { λ r. ⌜ r ≡ min n j ⌝ }
+{
+    if n < j {
+        return n;
+    }
+    j
+}
+
+// The same of at most four offsets, without a loop.
+fn few_rise(body: &[u8], from: u64, w: u64, n: u64) -> bool
+    requires { ⌜ (from + w * (n + 1) ≤ length (now body)) × (n ≤ 3) ⌝ }
+    requires { ⌜ ((w ≡ 4 → ⊥) → w ≡ 8) ⌝ }
+    ensures { λ r. ⌜ r ≡ neverFalls w (was body) from n ⌝ }
+{
+    let lead = lookups::entry_at(body, from, w, 0);
+    let one = lookups::entry_at(body, from, w, smaller(n, 1));
+    if one < lead {
+        return false;
+    }
+    let two = lookups::entry_at(body, from, w, smaller(n, 2));
+    if two < one {
+        return false;
+    }
+    let last = lookups::entry_at(body, from, w, n);
+    if last < two {
+        return false;
+    }
+    true
+}
+
+// The same of any.
+fn rises(body: &[u8], from: u64, w: u64, n: u64) -> bool
+    requires { ⌜ (from + w * (n + 1) ≤ length (now body)) × (n < 2 ^ 63) ⌝ }
+    requires { ⌜ ((w ≡ 4 → ⊥) → w ≡ 8) ⌝ }
+    ensures { λ r. ⌜ r ≡ neverFalls w (was body) from n ⌝ }
+{
+    if n <= 3 {
+        return few_rise(body, from, w, n);
+    }
+    rises_by(body, from, w, n)
+}
+
 // The same, each width by itself.
-fn never_falls(body: &[u8], from: u64, w: u64, n: u64) -> bool
+pub fn never_falls(body: &[u8], from: u64, w: u64, n: u64) -> bool
     requires { ⌜ (from + w * (n + 1) ≤ length (now body)) × (n < 2 ^ 63) ⌝ }
     requires { ⌜ ((w ≡ 4 → ⊥) → w ≡ 8) ⌝ }
     ensures { λ r. ⌜ r ≡ neverFalls w (was body) from n ⌝ }
 {
     if w == 4 {
-        return rises_by(body, from, 4, n);
+        return rises(body, from, 4, n);
     }
-    rises_by(body, from, 8, n)
+    rises(body, from, 8, n)
 }
 
 // The n offsets of w bytes after the first of those at `from`, and the bytes from the source's offset `lead` on: `last` is the offset behind them.

@@ -1,5 +1,5 @@
 -- `dense_union::copy_child` meets its contract. Assumes nothing.
-use mathlib.Core.Path.{_≡_, refl, sym, ap, subst, _∙_}
+use mathlib.Core.Path.{_≡_, refl, sym, ap, _∙_}
 use mathlib.Core.Bool.{not, _&&_}
 use mathlib.Core.List.{List}
 use Prim.Native.Nat.{ℕ, _+_, _≤_}
@@ -11,7 +11,6 @@ use Rattle.batch.specs.Batch.{batchLeaf}
 use Rattle.batch.specs.batch_walk.Plain.{reached}
 use Rattle.batch.specs.batch_walk.Fall.{homeBy, takesOf, takesFrom}
 use Rattle.batch.proofs.batch_walk.PlainLeaf.{plain-wide}
-use Rattle.batch.proofs.batch_walk.Falls.{takes-most}
 use Rattle.batch.proofs.batch_walk.TextLeaf.{flat-rest}
 use Rattle.batch.proofs.batch_walk.Tried.{tried}
 use borrow.Author.Needs.{needs}
@@ -22,10 +21,7 @@ is-text-requires : tie.Need-is-text-requires
 is-text-requires c κs = search needs
 
 copy-texts-requires : tie.Need-copy-texts-requires
-copy-texts-requires c κs =
-    let a = c .before .before .before .before .before .before .before .before .before .before .args in
-    let t : a .total ≤ a .n = subst (λ v. v ≤ a .n) (sym (c .before .before .before .before .before .before .before .before .before .before .pre .1 .1 .0 .0)) (takes-most (λ q. homeBy (a .homes .now) (a .body .now) (a .ids + (a .slot + q))) (a .k) (a .n)) in
-    ((c .before .before .before .before .before .before .before .before .before .before .pre .0 .0, c .before .before .before .before .before .before .before .before .before .before .pre .0 .1, sym (c .before .before .before .is-text .ensures) ∙ c .before .before .if1 .taken), (c .before .before .before .before .before .before .before .before .before .before .pre .1 .0, (t, c .before .before .before .before .before .before .before .before .before .before .pre .1 .1 .1)))
+copy-texts-requires c κs = ((c .before .before .before .before .before .before .before .before .before .before .pre .0 .0, c .before .before .before .before .before .before .before .before .before .before .pre .0 .1, sym (c .before .before .before .is-text .ensures) ∙ c .before .before .if1 .taken), (c .before .before .before .before .before .before .before .before .before .before .pre .1 .0, (c .before .before .before .before .before .before .before .before .before .before .pre .1 .1 .0, c .before .before .before .before .before .before .before .before .before .before .pre .1 .1 .1)))
 
 same-length : tie.Need-same-length
 same-length c = search needs
