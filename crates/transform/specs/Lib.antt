@@ -2,4 +2,5 @@
 pub mod Answer
 pub mod leaf_rows
 pub mod numbers
+pub mod sparse_rows
 pub mod tried_counters

@@ -87,7 +87,7 @@ fn in_room(parts: &[u64], m: usize, p: usize) -> bool
 }
 
 // 14 where part p is not in the table or not in the room, and else 13 where it does not hold its bytes.
-fn part_ground(parts: &[u64], m: usize, p: usize, holds: bool) -> u8
+pub fn part_ground(parts: &[u64], m: usize, p: usize, holds: bool) -> u8
     requires { ⌜ p < 4294967298 ⌝ }
     ensures { λ r. ⌜ r ≡ verdict (ltb (2 * p + 1) (length (was parts)) && inRoom (was parts) m p) holds ⌝ }
 {
