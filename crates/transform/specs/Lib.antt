@@ -3,4 +3,5 @@ pub mod Answer
 pub mod leaf_rows
 pub mod list_rows
 pub mod numbers
+pub mod sparse_rows
 pub mod tried_counters

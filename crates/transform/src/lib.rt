@@ -12,6 +12,7 @@ mod null_ways;
 mod number_nulls;
 mod numbers;
 mod run_nulls;
+mod sparse_rows;
 mod stretches;
 mod tried_counters;
 
@@ -161,6 +162,20 @@ fn copy_nested(
     requires { ⌜ (length (now counters) ≡ 96) × (first < 2 ^ 32) × (source < 2 ^ 32) × (walkable (now plan) (length (now room)) ≡ true) ⌝ }
     ensures { λ r. ⌜ ((sources : List ℕ) → Settles (lent (was plan) (was parts) sources (was lengths) (was places) (was body)) (copyWalk (lentJoin plan parts lengths places body first source) 8 0 start n) counters room r) ⌝ }
 {
+    if sparse_rows::is_sparse(plan) {
+        return sparse_rows::copy_sparse(
+            plan,
+            parts,
+            lengths,
+            places,
+            body,
+            counters,
+            room,
+            first,
+            start,
+            n,
+        );
+    }
     let g = stretches::copy_stretches(
         plan,
         parts,
