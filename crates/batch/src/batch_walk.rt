@@ -70,7 +70,7 @@ fn is_listed(plan: &[u64]) -> bool
     false
 }
 
-// Whether the walk is written for a type: such a list-view, or a dense union of such nodes.
+// Whether the walk is written for a type: such a list-view, or a dense union of numbers and byte strings that keep no nulls.
 pub fn is_stretched(plan: &[u64]) -> bool
     ensures { λ r. ⌜ r ≡ isStretched (was plan) ⌝ }
 {
