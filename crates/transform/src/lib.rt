@@ -1,6 +1,6 @@
 // The two orders on lent memory: each is tried first, on a copy of the counters, and made where no ground is found. A refused one changes nothing.
 // A copy is tried without a look at validity bits, and counts its nulls where it is made. Of a leaf (`leaf_rows`, `leaf_nulls`) and a list of numbers
-// (`list_rows`, `list_nulls`) no walk is tried; a type that is one node of numbers goes a shorter way still (`numbers`, `number_nulls`).
+// (`list_rows`, `list_nulls`) and of a copy of a sparse union of numbers (`sparse_rows`) no walk is tried; a type that is one node of numbers goes a shorter way still (`numbers`, `number_nulls`).
 // Follows `try_extend` and `try_extend_nulls` of arrow-data 60.1.0 src/transform/mod.rs, Apache-2.0; see NOTICE.
 mod leaf_bits;
 mod leaf_counters;
@@ -15,6 +15,7 @@ mod run_nulls;
 mod sparse_rows;
 mod stretches;
 mod tried_counters;
+mod tried_walks;
 
 ghost use mathlib.Core.Path.{_≡_};
 ghost use mathlib.Core.List.{List, []};
@@ -32,8 +33,9 @@ ghost use Rattle.refinement.specs.orders.Order.{copyOrder, nullOrder};
 ghost use Rattle.transform.specs.Answer.{lent, Answers, Settles};
 ghost use Rattle.transform.specs.numbers.Plan.{oneOfNumbers, firstOfNumbers, runsOfNumbers, listOfNumbers};
 use array_data::lent_tables;
-use plan::grounds;
 use walk::plan_words;
+
+// ---- the counters
 
 // The counters as an array.
 pub fn load(counters: &[u64]) -> [u64; plan_words::COUNTERS]
@@ -81,70 +83,6 @@ pub fn in_source(lengths: &[u64], first: usize, start: u64, end: u64) -> bool
 
 // ---- copies
 
-// The rows start .. start + n - 1 of a source, whose first node is `first`.
-fn copy_rows(
-    plan: &[u64],
-    parts: &[u64],
-    lengths: &[u64],
-    places: &[u64],
-    body: &[u8],
-    counters: &mut [u64],
-    room: &mut [u8],
-    source: usize,
-    first: usize,
-    start: u64,
-    n: u64,
-) -> u8
-    requires { ⌜ (length (now counters) ≡ 96) × (first < 2 ^ 32) × (source < 2 ^ 32) × (walkable (now plan) (length (now room)) ≡ true) ⌝ }
-    ensures { λ r. ⌜ ((sources : List ℕ) → Settles (lent (was plan) (was parts) sources (was lengths) (was places) (was body)) (copyWalk (lentJoin plan parts lengths places body first source) 8 0 start n) counters room r) ⌝ }
-{
-    let nodes = plan::parts::node_count(plan);
-    let mut tally = [0u64; plan_words::COUNTERS];
-    tried_counters::uncounted(&mut tally, counters, nodes);
-    let g = extend::extend(
-        plan,
-        parts,
-        lengths,
-        places,
-        body,
-        &mut tally,
-        room,
-        false,
-        source,
-        first,
-        0,
-        start,
-        n,
-        8,
-    );
-    if g != 0 {
-        return g;
-    }
-    let g = grounds::parts_ground(plan, &tally, parts, room.len());
-    if g != 0 {
-        return g;
-    }
-    tried_counters::reload(&mut tally, counters, nodes);
-    let g = extend::extend(
-        plan,
-        parts,
-        lengths,
-        places,
-        body,
-        &mut tally,
-        room,
-        true,
-        source,
-        first,
-        0,
-        start,
-        n,
-        8,
-    );
-    tried_counters::keep(counters, &tally, nodes);
-    g
-}
-
 // The same by stretches, where they answer.
 fn copy_nested(
     plan: &[u64],
@@ -191,7 +129,7 @@ fn copy_nested(
     if g != stretches::UNTOLD {
         return g;
     }
-    copy_rows(
+    tried_walks::copy_rows(
         plan,
         parts,
         lengths,
@@ -341,27 +279,6 @@ pub fn at_most_far(n: u64) -> u64
     n
 }
 
-// n nulls.
-fn add_nulls(plan: &[u64], parts: &[u64], counters: &mut [u64], room: &mut [u8], n: u64) -> u8
-    requires { ⌜ (length (now counters) ≡ 96) × (walkable (now plan) (length (now room)) ≡ true) ⌝ }
-    ensures { λ r. ⌜ ((sources lengths places body : List ℕ) → Settles (lent (was plan) (was parts) sources lengths places body) (nullWalk (nullJoin plan parts) 8 0 n) counters room r) ⌝ }
-{
-    let mut tally = load(counters);
-    let g = extend::extend_nulls(plan, parts, &mut tally, room, false, 0, n, 8);
-    if g != 0 {
-        return g;
-    }
-    let g = grounds::parts_ground(plan, &tally, parts, room.len());
-    if g != 0 {
-        return g;
-    }
-    let nodes = plan::parts::node_count(plan);
-    tried_counters::reload(&mut tally, counters, nodes);
-    let g = extend::extend_nulls(plan, parts, &mut tally, room, true, 0, n, 8);
-    tried_counters::keep(counters, &tally, nodes);
-    g
-}
-
 // The same by the kind of the type: nulls of a leaf, of run ends over numbers and of a list of numbers are not tried first.
 fn add_null_range(
     plan: &[u64],
@@ -386,7 +303,7 @@ fn add_null_range(
     if (n != 0) & schema::formats::within(plan_words::code_of(plan, 0), 1, 16) {
         return leaf_nulls::add_leaf_nulls(plan, parts, counters, room, n);
     }
-    add_nulls(plan, parts, counters, room, n)
+    tried_walks::add_nulls(plan, parts, counters, room, n)
 }
 
 // Adds n nulls behind the destination's rows: 0, or the ground of refusal. No source is read.

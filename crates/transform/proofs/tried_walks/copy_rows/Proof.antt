@@ -1,4 +1,4 @@
--- `transform::copy_rows` meets its contract. Assumes nothing.
+-- `transform::tried_walks::copy_rows` meets its contract. Assumes nothing.
 use mathlib.Core.Path.{refl, sym, ap, _∙_}
 use mathlib.Core.List.{List}
 use Prim.Native.Nat.{ℕ}
@@ -11,8 +11,8 @@ use Rattle.transform.specs.Answer.{lent}
 use Rattle.transform.proofs.Laws.{settled-no, settled-parts, settled-made}
 use Rattle.transform.proofs.tried_counters.Laws.{copy-tried, copy-made, copy-long}
 use borrow.Author.Needs.{needs}
-use Rattle.transform.proofs.copy_rows.Statement.{statement}
-use Rattle.transform.proofs.copy_rows.Tie as tie
+use Rattle.transform.proofs.tried_walks.copy_rows.Statement.{statement}
+use Rattle.transform.proofs.tried_walks.copy_rows.Tie as tie
 
 node-count-requires : tie.Need-node-count-requires
 node-count-requires c κs = search needs

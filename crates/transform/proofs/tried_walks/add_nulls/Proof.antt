@@ -1,4 +1,4 @@
--- `transform::add_nulls` meets its contract. Assumes nothing.
+-- `transform::tried_walks::add_nulls` meets its contract. Assumes nothing.
 use mathlib.Core.Path.{sym, ap, _∙_}
 use mathlib.Core.List.{List, []}
 use Prim.Native.Nat.{ℕ}
@@ -11,8 +11,8 @@ use Rattle.transform.specs.Answer.{lent}
 use Rattle.transform.proofs.Laws.{settled-no, settled-parts, settled-made}
 use Rattle.transform.proofs.tried_counters.Laws.{null-tried, null-made, null-long}
 use borrow.Author.Needs.{needs}
-use Rattle.transform.proofs.add_nulls.Statement.{statement}
-use Rattle.transform.proofs.add_nulls.Tie as tie
+use Rattle.transform.proofs.tried_walks.add_nulls.Statement.{statement}
+use Rattle.transform.proofs.tried_walks.add_nulls.Tie as tie
 
 load-requires : tie.Need-load-requires
 load-requires c κs = c .before .before .before .before .before .pre .0
