@@ -44,11 +44,28 @@ impl<'a> Generate<'a> {
 
     // ---- types
 
-    /// A type of at most 32 nodes and depth 8; now and then a chain down to depth 8.
+    /// A type of at most 32 nodes and depth 8; now and then a chain down to depth 8, or list-views of list-views without nulls.
     pub fn ty(&mut self) -> Type {
+        if self.random.chance(8) {
+            return self.list_views();
+        }
         let deep = self.random.chance(10);
         let mut left = if deep { 31 } else { self.random.pick(&[0, 3, 8, 31]) };
         self.node(1, &mut left, deep)
+    }
+
+    /// One to seven list-views over numbers or byte strings; nulls, if any, at one node.
+    fn list_views(&mut self) -> Type {
+        let r = &mut *self.random;
+        let depth = 1 + r.size(7);
+        let nullable = if r.chance(20) { r.size(depth) } else { depth };
+        let format = if r.chance(50) { r.pick(&NUMBERS) } else { r.pick(&STRINGS) };
+        let mut ty = leaf(format, nullable == 0);
+        for k in 1..=depth {
+            let format = r.pick(&["+vl", "+vL"]);
+            ty = Type { children: vec![ty], ..leaf(format, nullable == k && k != depth) };
+        }
+        ty
     }
 
     /// A list of this format, of at most 32 nodes and depth 8.
@@ -166,9 +183,13 @@ impl<'a> Generate<'a> {
                 let child = self.make(&ty.children[0], rows);
                 let rows = child.length;
                 let (mut offsets, mut sizes) = (self.random.bytes(w * offset as usize), self.random.bytes(w * offset as usize));
+                let follows = self.random.below(101);
+                let mut end = 0;
                 for _ in 0..length {
                     let size = self.random.below(4.min(rows + 1));
-                    Self::put(&mut offsets, self.random.below(rows - size + 1), w);
+                    let start = if end + size <= rows && self.random.chance(follows) { end } else { self.random.below(rows - size + 1) };
+                    end = start + size;
+                    Self::put(&mut offsets, start, w);
                     Self::put(&mut sizes, size, w);
                 }
                 offsets.extend(self.random.bytes(extra as usize));
@@ -193,10 +214,15 @@ impl<'a> Generate<'a> {
                 }
                 let homes: Vec<usize> = (0..ids.len()).filter(|c| 0 < column.children[*c].length).collect();
                 let (mut types, mut positions) = (self.random.bytes(offset as usize), self.random.bytes(4 * offset as usize));
+                let follows = self.random.below(101);
+                let mut ends = vec![0; ids.len()];
                 for _ in 0..column.length {
                     let c = self.random.pick(&homes);
+                    let rows = column.children[c].length;
+                    let at = if ends[c] < rows && self.random.chance(follows) { ends[c] } else { self.random.below(rows) };
+                    ends[c] = at + 1;
                     types.push(ids[c]);
-                    Self::put(&mut positions, self.random.below(column.children[c].length), 4);
+                    Self::put(&mut positions, at, 4);
                 }
                 column.buffers = vec![types.into(), positions.into()];
             }
