@@ -11,7 +11,7 @@ pub mod wide;
 ghost use mathlib.Core.Path.{_≡_};
 ghost use mathlib.Core.Bool.{true};
 ghost use mathlib.Core.List.{[]};
-ghost use Prim.Native.Nat.{_+_, _*_, _≤_, _<_, _^_};
+ghost use Prim.Native.Nat.{_+_, _*_, _<_, _^_};
 ghost use Rattle.clauses.specs.Slices.{was};
 ghost use Rattle.schema.specs.formats.Code.{isInteger};
 ghost use Rattle.array_data.specs.Tables.{lengthOf, offsetOf, place};
@@ -127,7 +127,7 @@ fn find_plain(lengths: &[u64], places: &[u64], first: u32, code: u8) -> Numbers
 fn find_runs(lengths: &[u64], places: &[u64], first: u32, code: u8, width: u8) -> Numbers
     requires { ⌜ isInteger code ≡ true ⌝ }
     requires { ⌜ offsetOf (column (now lengths) [] [] [] first) 1 + lengthOf (column (now lengths) [] [] [] first) 1 < 2 ^ 63 ⌝ }
-    requires { let c = column (now lengths) [] [] [] first in ⌜ (0 < width * (offsetOf c 1 + lengthOf c 1) → place (column [] (now places) [] [] first) 1 3 + width * (offsetOf c 1 + lengthOf c 1) < 2 ^ 64) ⌝ }
+    requires { let c = column (now lengths) (now places) [] [] first in let size = width * (offsetOf c 1 + lengthOf c 1) in ⌜ (0 < size → place c 1 3 + size < 2 ^ 64) ⌝ }
     ensures { λ r. ⌜ r ≡ runNumbers (column (was lengths) (was places) [] [] first) code width ⌝ }
 {
     let ends = stretches::find_ends(lengths, places, first, width);
@@ -144,7 +144,7 @@ fn find_runs(lengths: &[u64], places: &[u64], first: u32, code: u8, width: u8) -
 fn find_numbers(lengths: &[u64], places: &[u64], first: u32, s: Shape) -> Numbers
     requires { ⌜ isInteger (s .code) ≡ true ⌝ }
     requires { ⌜ (s .runs ≡ true → offsetOf (column (now lengths) [] [] [] first) 1 + lengthOf (column (now lengths) [] [] [] first) 1 < 2 ^ 63) ⌝ }
-    requires { let c = column (now lengths) [] [] [] first in ⌜ (s .runs ≡ true → 0 < s .width * (offsetOf c 1 + lengthOf c 1) → place (column [] (now places) [] [] first) 1 3 + s .width * (offsetOf c 1 + lengthOf c 1) < 2 ^ 64) ⌝ }
+    requires { let c = column (now lengths) (now places) [] [] first in let size = s .width * (offsetOf c 1 + lengthOf c 1) in ⌜ (s .runs ≡ true → 0 < size → place c 1 3 + size < 2 ^ 64) ⌝ }
     ensures { λ r. ⌜ r ≡ numbersOf (column (was lengths) (was places) [] [] first) s ⌝ }
 {
     if s.runs {

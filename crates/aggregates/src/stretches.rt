@@ -25,7 +25,7 @@ pub struct Ends {
 // Those of the column that begins at node `first` of the tables.
 pub fn find_ends(lengths: &[u64], places: &[u64], first: u32, width: u8) -> Ends
     requires { ⌜ offsetOf (column (now lengths) [] [] [] first) 1 + lengthOf (column (now lengths) [] [] [] first) 1 < 2 ^ 63 ⌝ }
-    requires { let c = column (now lengths) [] [] [] first in ⌜ (0 < width * (offsetOf c 1 + lengthOf c 1) → place (column [] (now places) [] [] first) 1 3 + width * (offsetOf c 1 + lengthOf c 1) < 2 ^ 64) ⌝ }
+    requires { let c = column (now lengths) (now places) [] [] first in let size = width * (offsetOf c 1 + lengthOf c 1) in ⌜ (0 < size → place c 1 3 + size < 2 ^ 64) ⌝ }
     ensures { λ r. ⌜ r ≡ endsOf (column (was lengths) (was places) [] [] first) width ⌝ }
 {
     let w = width as usize;

@@ -1,3 +1,4 @@
 -- The laws of `array_data`.
 pub mod Names
 pub mod Typed
+pub mod type_tree

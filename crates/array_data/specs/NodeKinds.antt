@@ -5,7 +5,7 @@ use mathlib.Core.Option.{Option, Option·getD}
 use Prim.Native.Nat.{ℕ, suc}
 use lib.Dec.{eqb}
 use Rattle.columnar.specs.Types.{Number, int, w1}
-use Rattle.schema.specs.formats.Code.{isFixed, isString, isView, isListView, isList, isUnion, isRunEnd, widthOf}
+use Rattle.schema.specs.formats.Code.{isFixed, isString, isView, isListView, isList, isUnion, isSparse, isRunEnd, widthOf}
 use Rattle.schema.specs.formats.Types.{numberOf, numberOr}
 use Rattle.schema.specs.Tree.{dictionary, codeOf, idsOf}
 
@@ -29,7 +29,7 @@ kindOf code single ids next =
     (cond (isView code) viewNode
     (cond (isListView code) (listViewNode (widthOf code))
     (cond (isList code) (listNode (widthOf code))
-    (cond (isUnion code) (cond (eqb code 21) (sparseNode (Option·getD ids [])) (denseNode (Option·getD ids [])))
+    (cond (isUnion code) (cond (isSparse code) (sparseNode (Option·getD ids [])) (denseNode (Option·getD ids [])))
     (cond (isRunEnd code) (runEndNode (widthOf next))
     (fixedNode (int w1))))))))
 

@@ -10,7 +10,7 @@ use Rattle.columnar.specs.Array.{Array, nullCount}
 use Rattle.columnar.specs.Plain.{PlainBody}
 use Rattle.columnar.specs.Reading.{Body, Column}
 use Rattle.columnar.specs.Test.{every, onlyIf}
-use Rattle.schema.specs.formats.Code.{isString, isView, isListView, isRunEnd}
+use Rattle.schema.specs.formats.Code.{isString, isView, isListView, isDense, isRunEnd}
 use Rattle.schema.specs.Tree.{nullable, endOf, codeOf}
 use Rattle.array_data.specs.Tables.{Tables, place, firstBuffer, secondBuffer, dataBuffers, arrayWith, held, inBody, validIn}
 use Rattle.array_data.specs.NodeKinds.{NodeKind, fixedNode, stringNode, viewNode, listViewNode, listNode, sparseNode, denseNode, runEndNode, dictionaryNode, kindAt}
@@ -143,7 +143,7 @@ module _ (t : Tree) (x : Tables) where
       let code = codeOf (t .formats) (t .schema) (t .first) i in
       held x i && validIn x i
       && onlyIf (not (isRunEnd code)) (inBody x (place x i 3) (place x i 4))
-      && onlyIf (isString code || isListView code || eqb code 22) (inBody x (place x i 5) (place x i 6))
+      && onlyIf (isString code || isListView code || isDense code) (inBody x (place x i 5) (place x i 6))
       && onlyIf (isView code) (buffersIn x i)
 
   -- the nodes of a subtree

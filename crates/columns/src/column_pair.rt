@@ -34,7 +34,7 @@ pub fn pair_ground(
     first_b: u32,
     n_b: u32,
 ) -> u8
-    ensures { λ r. let t = tablesOf (was lengths) (was places) (was buffers) (was body) in ⌜ r ≡ pairGround (columnGround (was formats) (was schema) t «first_a» «n_a») (columnGround (was formats) (was schema) t «first_b» «n_b») ⌝ }
+    ensures { λ r. let g = columnGround (was formats) (was schema) (tablesOf (was lengths) (was places) (was buffers) (was body)) in ⌜ r ≡ pairGround (g «first_a» «n_a») (g «first_b» «n_b») ⌝ }
 {
     let g = crate::column_ground(
         formats,

@@ -4,6 +4,7 @@ use mathlib.Core.Bool.{cond, _&&_}
 use mathlib.Core.List.{List}
 use Prim.Native.Nat.{ℕ, _-_}
 use lib.Dec.{leb, ltb, eqb}
+use Rattle.clauses.specs.Slices.{was, Slice}
 use Rattle.walk.specs.State.{keepsOf}
 use Rattle.walk.specs.Log.{Out}
 use Rattle.walk.specs.Copy.{copyWalk}
@@ -21,6 +22,10 @@ use Rattle.explain.specs.stops.Order.{whySettled}
 pub record Settles (x : Lent) (m : ℕ) (c : List ℕ) (n : ℕ) (o : Out) (v w : Why) (c2 : List ℕ) : Type 0 where
   pub why : w ≡ whySettled x m c n o v
   pub left : w .ground ≡ 0 → (o .ans ≡ 0) × (c2 ≡ o .counters)
+
+-- .. both from the counters as they are lent
+abbrev pub Settled : ℕ → (counters : Slice) → ℕ → (List ℕ → Out) → (List ℕ → Why) → Why → Lent → Type 0
+Settled m counters n walk why w x = Settles x m (was counters) n (walk (was counters)) (why (was counters)) w (counters .exit .now)
 
 -- `whyOrder` (stops/specs/Order.antt) without its first 14
 abbrev pub whyCall : Lent → ℕ → List ℕ → Call → Why

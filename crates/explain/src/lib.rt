@@ -2,8 +2,7 @@
 // a copy of the counters, and of the room the length alone is asked.
 ghost use mathlib.Core.Path.{_≡_};
 ghost use mathlib.Core.Bool.{true};
-ghost use mathlib.Core.List.{List, []};
-ghost use Prim.Native.Nat.{ℕ, _+_, _<_, _≤_, _/_, _^_, min};
+ghost use Prim.Native.Nat.{_+_, _<_, _≤_, _/_, _^_, min};
 ghost use lib.ListN.{length};
 ghost use Rattle.clauses.specs.Slices.{was, left};
 ghost use Rattle.model.specs.Book.{copy, nulls};
@@ -13,14 +12,14 @@ ghost use Rattle.walk.specs.Nulls.{nullWalk};
 ghost use Rattle.leaf_walk.specs.Walks.{lentJoin, nullJoin};
 ghost use Rattle.plan.specs.parts.Parts.{partsWithin};
 ghost use Rattle.refinement.specs.orders.Sound.{walkable};
-ghost use Rattle.transform.specs.Answer.{lent};
+ghost use Rattle.with_capacities.specs.Lent.{lentAll, AnySources, AnyLent};
 ghost use Rattle.trip.specs.Trip.{callAt, callsOf};
 ghost use Rattle.explain.specs.stops.Why.{only, unless};
 ghost use Rattle.explain.specs.stops.Copy.{whyCopy};
 ghost use Rattle.explain.specs.stops.Nulls.{walked, whyNulls};
 ghost use Rattle.explain.specs.stops.Parts.{whyParts};
 ghost use Rattle.explain.specs.stops.Order.{whyCopyOrder, whyNullOrder, whyTrip};
-ghost use Rattle.explain.specs.Explains.{Settles, Explains};
+ghost use Rattle.explain.specs.Explains.{Settled, Explains};
 use crate::stops::Why;
 use crate::stops::WhyListed;
 use array_data::lent_tables;
@@ -90,7 +89,7 @@ fn copy_rows(
     n: u64,
 ) -> Why
     requires { ⌜ (first < 2 ^ 32) × (source < 2 ^ 32) × (m < top) ⌝ }
-    ensures { λ w. let j = lentJoin plan parts lengths places body first source in ⌜ ((sources : List ℕ) → Settles (lent (was plan) (was parts) sources (was lengths) (was places) (was body)) m (was counters) n (copyWalk j 8 0 start n (was counters)) (whyCopy j 8 0 start n (was counters)) w (left counters)) ⌝ }
+    ensures { λ w. let j = lentJoin plan parts lengths places body first source in ⌜ AnySources plan parts lengths places body (Settled m counters n (copyWalk j 8 0 start n) (whyCopy j 8 0 start n) w) ⌝ }
 {
     let r = plan_words::rows_of(counters, 0);
     let g = crate::stop_walks::try_copy(
@@ -135,7 +134,7 @@ fn add_nulls(
     n: u64,
 ) -> Why
     requires { ⌜ m < top ⌝ }
-    ensures { λ w. let j = nullJoin plan parts in ⌜ ((sources lengths places body : List ℕ) → Settles (lent (was plan) (was parts) sources lengths places body) m (was counters) n (nullWalk j 8 0 (walked n) (was counters)) (whyNulls j 8 0 n (was counters)) w (left counters)) ⌝ }
+    ensures { λ w. let j = nullJoin plan parts in ⌜ AnyLent plan parts (Settled m counters n (nullWalk j 8 0 (walked n)) (whyNulls j 8 0 n) w) ⌝ }
 {
     let r = plan_words::rows_of(counters, 0);
     let g = crate::nulls::try_nulls(plan, parts, counters, 0, n, DEPTH);
@@ -162,7 +161,7 @@ fn order_copy(
     end: u64,
 ) -> Why
     requires { ⌜ m < top ⌝ }
-    ensures { λ w. ⌜ Explains (lent (was plan) (was parts) (was sources) (was lengths) (was places) (was body)) m (copy source start end) (was counters) w (left counters) ⌝ }
+    ensures { λ w. ⌜ Explains (lentAll plan parts sources lengths places body) m (copy source start end) (was counters) w (left counters) ⌝ }
 {
     if lent_tables::at_u64(plan, plan_words::SOURCE_COUNT) <= source as u64 {
         return crate::stop_walks::plain(NO_SUCH_SOURCE);
@@ -195,7 +194,7 @@ fn order_nulls(
     n: u64,
 ) -> Why
     requires { ⌜ m < top ⌝ }
-    ensures { λ w. ⌜ ((sources lengths places body : List ℕ) → Explains (lent (was plan) (was parts) sources lengths places body) m (nulls n) (was counters) w (left counters)) ⌝ }
+    ensures { λ w. ⌜ AnyLent plan parts (λ l. Explains l m (nulls n) (was counters) w (left counters)) ⌝ }
 {
     if plan_words::keeps_of(plan, 0) == 0 {
         return crate::stop_walks::plain(KEEPS_NO_NULLS);
@@ -227,7 +226,7 @@ fn order_at(
     k: usize,
 ) -> Why
     requires { ⌜ (k < 256) × (m < top) ⌝ }
-    ensures { λ w. ⌜ Explains (lent (was plan) (was parts) (was sources) (was lengths) (was places) (was body)) m (callAt (was orders) k) (was counters) w (left counters) ⌝ }
+    ensures { λ w. ⌜ Explains (lentAll plan parts sources lengths places body) m (callAt (was orders) k) (was counters) w (left counters) ⌝ }
 {
     let kind = lent_tables::at_u64(orders, 4 * k);
     let a = lent_tables::at_u64(orders, 4 * k + 1);
@@ -267,7 +266,7 @@ pub fn why_copy(
     start: u64,
     end: u64,
 ) -> Why
-    ensures { λ w. ⌜ w ≡ whyCopyOrder (lent (was plan) (was parts) (was sources) (was lengths) (was places) (was body)) m (was counters) source start end ⌝ }
+    ensures { λ w. ⌜ w ≡ whyCopyOrder (lentAll plan parts sources lengths places body) m (was counters) source start end ⌝ }
 {
     if counters.len() != plan_words::COUNTERS {
         return crate::stop_walks::plain(NOT_LENT);
@@ -293,7 +292,7 @@ pub fn why_copy(
 
 // What stops n nulls, in a room of m bytes. No source is read.
 pub fn why_nulls(plan: &[u64], parts: &[u64], counters: &[u64], m: usize, n: u64) -> Why
-    ensures { λ w. ⌜ ((sources lengths places body : List ℕ) → w ≡ whyNullOrder (lent (was plan) (was parts) sources lengths places body) m (was counters) n) ⌝ }
+    ensures { λ w. ⌜ AnyLent plan parts (λ l. w ≡ whyNullOrder l m (was counters) n) ⌝ }
 {
     if counters.len() != plan_words::COUNTERS {
         return crate::stop_walks::plain(NOT_LENT);
@@ -329,7 +328,7 @@ fn walk_orders(
     n: usize,
 ) -> WhyListed
     requires { ⌜ (length (now counters) ≡ 96) × (n ≤ 256) × (n ≡ length (now orders) / 4) × (walkable (now plan) m ≡ true) ⌝ }
-    ensures { λ r. ⌜ r ≡ whyTrip (lent (was plan) (was parts) (was sources) (was lengths) (was places) (was body)) m (was counters) (callsOf (was orders)) ⌝ }
+    ensures { λ r. ⌜ r ≡ whyTrip (lentAll plan parts sources lengths places body) m (was counters) (callsOf (was orders)) ⌝ }
 {
     let mut tally = transform::load(counters);
     let mut k: usize = 0;
@@ -369,7 +368,7 @@ pub fn why_orders(
     m: usize,
     orders: &[u64],
 ) -> WhyListed
-    ensures { λ r. ⌜ r ≡ whyTrip (lent (was plan) (was parts) (was sources) (was lengths) (was places) (was body)) m (was counters) (callsOf (was orders)) ⌝ }
+    ensures { λ r. ⌜ r ≡ whyTrip (lentAll plan parts sources lengths places body) m (was counters) (callsOf (was orders)) ⌝ }
 {
     let n = orders.len() / WORDS;
     if LONGEST < n {

@@ -1,15 +1,15 @@
 // Stops at list-views and lists: a row whose offset and size do not fit, an offset that does not, or the rows of the child.
 ghost use mathlib.Core.Path.{_≡_};
-ghost use mathlib.Core.List.{List, []};
+ghost use mathlib.Core.List.{[]};
 ghost use Prim.Native.Nat.{ℕ, _+_, _*_, _<_, _≤_, _^_};
 ghost use lib.ListN.{length};
 ghost use Rattle.clauses.specs.Slices.{was, left};
 ghost use Rattle.walk.specs.State.{place};
-ghost use Rattle.walk.specs.Copy.{listViewRow, copyWalk};
+ghost use Rattle.walk.specs.Copy.{listViewRow};
 ghost use Rattle.leaf_walk.specs.Join.{join};
-ghost use Rattle.leaf_walk.specs.Walks.{lentJoin};
-ghost use Rattle.explain.specs.stops.Copy.{whyListRow, whyListView, whyList, whyCopy};
-ghost use Rattle.explain.specs.stop_walks.Step.{whyAfter, RowSays};
+ghost use Rattle.leaf_walk.specs.Walks.{lentJoin, AnyLengths};
+ghost use Rattle.explain.specs.stops.Copy.{whyListRow, whyListView, whyList};
+ghost use Rattle.explain.specs.stop_walks.Step.{Says, RowAt};
 use crate::stop_walks::Step;
 use crate::stops::Why;
 use array_data::lent_tables;
@@ -41,7 +41,7 @@ fn list_row(
     requires { ⌜ (first < 2 ^ 32) × (source < 2 ^ 32) × (i + 1 < 32) × (slot + r + 1 < 2 ^ 63) ⌝ }
     requires { ⌜ ((w ≡ 4 → ⊥) → w ≡ 8) ⌝ }
     requires { let j = join [] [] (now lengths) (now places) (now body) first 0 in ⌜ (place j i 3 + w * (slot + r + 1) ≤ length (now body)) × (place j i 5 + w * (slot + r + 1) ≤ length (now body)) ⌝ }
-    ensures { λ s. let j = lentJoin plan parts lengths places body first source in let c = copyWalk j depth in ⌜ RowSays (listViewRow j c w i slot r (was counters)) (whyListRow j c (whyCopy j depth) w i slot r (was counters)) j depth s (left counters) ⌝ }
+    ensures { λ s. let j = lentJoin plan parts lengths places body first source in ⌜ RowAt j depth (λ c. listViewRow j c w) (λ c y. whyListRow j c y w) i slot r (was counters) s (left counters) ⌝ }
 {
     let offset = lookups::entry_at(body, lent_tables::place(places, first + i, 3), w, slot + r);
     let size = lookups::entry_at(body, lent_tables::place(places, first + i, 5), w, slot + r);
@@ -89,7 +89,7 @@ pub fn step_list_view(
 ) -> Step
     requires { ⌜ (first < 2 ^ 32) × (source < 2 ^ 32) × (i < 32) × (slot + n < 2 ^ 63) ⌝ }
     requires { ⌜ ((w ≡ 4 → ⊥) → w ≡ 8) ⌝ }
-    ensures { λ r. let j = lentJoin plan parts lengths places body first source in ⌜ whyListView j (copyWalk j depth) (whyCopy j depth) w i slot n (was counters) ≡ whyAfter j depth r (left counters) ⌝ }
+    ensures { λ r. let j = lentJoin plan parts lengths places body first source in ⌜ Says j depth (λ c y. whyListView j c y w i slot n) (was counters) r (left counters) ⌝ }
 {
     if 32 <= i + 1 {
         return Step::Here(crate::stop_walks::plain(FOREIGN));
@@ -139,7 +139,7 @@ pub fn step_list(
 ) -> Step
     requires { ⌜ (first < 2 ^ 32) × (i < 32) × (slot + n < 2 ^ 63) ⌝ }
     requires { ⌜ ((w ≡ 4 → ⊥) → w ≡ 8) ⌝ }
-    ensures { λ r. ⌜ ((lengths : List ℕ) (source depth : ℕ) → let j = join (was plan) (was parts) lengths (was places) (was body) first source in whyList j (copyWalk j depth) (whyCopy j depth) w i slot n (was counters) ≡ whyAfter j depth r (was counters)) ⌝ }
+    ensures { λ r. ⌜ AnyLengths plan parts places body first (λ j. (depth : ℕ) → Says j depth (λ c y. whyList j c y w i slot n) (was counters) r (was counters)) ⌝ }
 {
     if n == 0 {
         return Step::On;

@@ -1,17 +1,15 @@
 // What stops an order of nulls, looked for from the top of the tree downward, as of a copy. A count of 2^63 or more is walked as 2^63, as the
 // order is; the number that 7 needs has it as it was given. Nothing is written, and no source is read.
 ghost use mathlib.Core.Path.{_≡_};
-ghost use mathlib.Core.List.{List, []};
-ghost use Prim.Native.Nat.{ℕ, suc, _+_, _<_};
+ghost use Prim.Native.Nat.{suc, _+_, _<_};
 ghost use Rattle.clauses.specs.Slices.{was, left};
 ghost use Rattle.walk.specs.State.{codeOf, bytesOf};
 ghost use Rattle.walk.specs.Nulls.{noHome, nullWalk};
-ghost use Rattle.leaf_walk.specs.Join.{join};
 ghost use Rattle.leaf_walk.specs.Walks.{nullJoin};
 ghost use Rattle.explain.specs.stops.Why.{named};
 ghost use Rattle.explain.specs.stops.Nulls.{walked, firstPosition, whyNullSparse, whyNullDense, whyNullEnd, whyNullRuns, whyNullData, whyNullNode, whyNulls};
 ghost use Rattle.explain.specs.stop_walks.Step.{Tried};
-ghost use Rattle.explain.specs.nulls.Step.{whyAfter, RowSays};
+ghost use Rattle.explain.specs.nulls.Step.{whyAfter, AnyParts, RowSays};
 use crate::stops::Why;
 use nested_rows::lookups;
 use walk::plan_words;
@@ -137,7 +135,7 @@ fn first_position(rows: u64) -> u64
 // A dense union: no home, its first position that does not fit, or its home.
 fn step_dense(plan: &[u64], counters: &[u64; plan_words::COUNTERS], i: usize, n: u64) -> NullStep
     requires { ⌜ i < 32 ⌝ }
-    ensures { λ r. ⌜ ((parts : List ℕ) (depth : ℕ) → let j = join (was plan) parts [] [] [] 0 0 in whyNullDense j (nullWalk j depth) (whyNulls j depth) i n (was counters) ≡ whyAfter j depth r (was counters)) ⌝ }
+    ensures { λ r. ⌜ AnyParts plan (λ j depth. whyNullDense j (nullWalk j depth) (whyNulls j depth) i n (was counters) ≡ whyAfter j depth r (was counters)) ⌝ }
 {
     let h = nested_rows::null_home(plan, i);
     if 32 <= h {
@@ -163,7 +161,7 @@ fn step_dense(plan: &[u64], counters: &[u64; plan_words::COUNTERS], i: usize, n:
 fn step_end(plan: &[u64], counters: &[u64; plan_words::COUNTERS], i: usize, n: u64) -> NullStep
     requires { ⌜ i + 2 < 32 ⌝ }
     requires { ⌜ ((bytesOf (now plan) (suc i) ≡ 2 → ⊥) → (bytesOf (now plan) (suc i) ≡ 4 → ⊥) → bytesOf (now plan) (suc i) ≡ 8) ⌝ }
-    ensures { λ r. ⌜ ((parts : List ℕ) (depth : ℕ) → let j = join (was plan) parts [] [] [] 0 0 in whyNullEnd j (nullWalk j depth) (whyNulls j depth) (bytesOf (was plan) (suc i)) i n (was counters) ≡ whyAfter j depth r (was counters)) ⌝ }
+    ensures { λ r. ⌜ AnyParts plan (λ j depth. whyNullEnd j (nullWalk j depth) (whyNulls j depth) (bytesOf (was plan) (suc i)) i n (was counters) ≡ whyAfter j depth r (was counters)) ⌝ }
 {
     let w = lookups::width_at(plan, i + 1);
     let last = plan_words::rows_of(counters, i);

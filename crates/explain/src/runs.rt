@@ -1,12 +1,8 @@
 // Stops at run-end nodes: a run end that does not fit, or the values of the runs.
-ghost use mathlib.Core.Path.{_≡_};
-ghost use mathlib.Core.List.{List};
-ghost use Prim.Native.Nat.{ℕ, _+_, _<_, _^_};
+ghost use Prim.Native.Nat.{_+_, _<_, _^_};
 ghost use Rattle.clauses.specs.Slices.{was};
-ghost use Rattle.walk.specs.Copy.{copyWalk};
-ghost use Rattle.leaf_walk.specs.Join.{join};
-ghost use Rattle.explain.specs.stops.Copy.{whyRuns, whyCopy};
-ghost use Rattle.explain.specs.stop_walks.Step.{whyAfter};
+ghost use Rattle.explain.specs.stops.Copy.{whyRuns};
+ghost use Rattle.explain.specs.stop_walks.Step.{Says, AnyParts};
 use crate::stop_walks::Step;
 use crate::stops::Why;
 use nested_rows::lookups;
@@ -29,7 +25,7 @@ pub fn step_run(
     n: u64,
 ) -> Step
     requires { ⌜ (first < 2 ^ 32) × (i < 32) × (slot + n < 2 ^ 63) ⌝ }
-    ensures { λ r. ⌜ ((parts : List ℕ) (source depth : ℕ) → let j = join (was plan) parts (was lengths) (was places) (was body) first source in whyRuns j (copyWalk j depth) (whyCopy j depth) i slot n (was counters) ≡ whyAfter j depth r (was counters)) ⌝ }
+    ensures { λ r. ⌜ AnyParts plan lengths places body first (λ j depth. Says j depth (λ c y. whyRuns j c y i slot n) (was counters) r (was counters)) ⌝ }
 {
     if n == 0 {
         return Step::On;

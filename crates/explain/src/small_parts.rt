@@ -188,7 +188,7 @@ fn why_node(
     n: u64,
 ) -> Why
     requires { ⌜ (i < 32) × ((b : ℕ) → b < 3 → SmallPart (now plan) (now parts) i b) ⌝ }
-    ensures { λ w. ⌜ w ≡ whyPart (was plan) (was counters) (was parts) (r + n) i 0 (whyPart (was plan) (was counters) (was parts) (r + n) i 1 (whyPart (was plan) (was counters) (was parts) (r + n) i 2 nothing)) ⌝ }
+    ensures { λ w. let part = whyPart (was plan) (was counters) (was parts) (r + n) i in ⌜ w ≡ part 0 (part 1 (part 2 nothing)) ⌝ }
 {
     let validity = why_part(plan, counters, parts, i, 0, r, n);
     if validity.ground != 0 {

@@ -8,7 +8,7 @@ ghost use Rattle.walk.specs.Copy.{copyWalk};
 ghost use Rattle.leaf_walk.specs.Walks.{lentJoin};
 ghost use Rattle.explain.specs.stops.Why.{only};
 ghost use Rattle.explain.specs.stops.Copy.{most, whyData, whyNode, whyCopy};
-ghost use Rattle.explain.specs.stop_walks.Step.{Tried, whyAfter, RowSays};
+ghost use Rattle.explain.specs.stop_walks.Step.{Tried, Says, RowSays};
 use crate::lists;
 use crate::runs;
 use crate::stops::Why;
@@ -161,7 +161,7 @@ fn step_data(
     depth: u32,
 ) -> Step
     requires { ⌜ (first < 2 ^ 32) × (source < 2 ^ 32) × (i < 32) × (slot + n < 2 ^ 63) ⌝ }
-    ensures { λ r. let j = lentJoin plan parts lengths places body first source in ⌜ whyData j (copyWalk j depth) (whyCopy j depth) (codeOf (was plan) i) i slot n (was counters) ≡ whyAfter j depth r (left counters) ⌝ }
+    ensures { λ r. let j = lentJoin plan parts lengths places body first source in ⌜ Says j depth (λ c y. whyData j c y (codeOf (was plan) i) i slot n) (was counters) r (left counters) ⌝ }
 {
     let code = plan_words::code_of(plan, i);
     let w = lookups::width_at(plan, i);
@@ -257,7 +257,7 @@ fn step_node(
     depth: u32,
 ) -> Step
     requires { ⌜ (first < 2 ^ 32) × (source < 2 ^ 32) ⌝ }
-    ensures { λ r. let j = lentJoin plan parts lengths places body first source in ⌜ whyNode j (copyWalk j depth) (whyCopy j depth) i a n (was counters) ≡ whyAfter j depth r (left counters) ⌝ }
+    ensures { λ r. let j = lentJoin plan parts lengths places body first source in ⌜ Says j depth (λ c y. whyNode j c y i a n) (was counters) r (left counters) ⌝ }
 {
     if 32 <= i {
         return Step::Here(plain(FOREIGN));

@@ -15,8 +15,3 @@ pub struct WhyListed {
     pub place: u32,
     pub why: Why,
 }
-
-// How many numbers say what stopped an order.
-pub fn numbers() -> usize {
-    5
-}

@@ -1,16 +1,13 @@
 // Stops at byte strings: the first offset that does not fit.
 ghost use mathlib.Core.Path.{_≡_};
 ghost use mathlib.Core.Bool.{cond};
-ghost use mathlib.Core.List.{List};
-ghost use Prim.Native.Nat.{ℕ, _+_, _*_, _<_, _≤_, _^_};
+ghost use Prim.Native.Nat.{_+_, _*_, _<_, _≤_, _^_};
 ghost use lib.ListN.{length};
 ghost use lib.Dec.{leb};
 ghost use Rattle.clauses.specs.Slices.{was};
 ghost use Rattle.utils.specs.Extension.{extended};
-ghost use Rattle.walk.specs.Copy.{copyWalk};
-ghost use Rattle.leaf_walk.specs.Join.{join};
-ghost use Rattle.explain.specs.stops.Copy.{whyString, whyCopy};
-ghost use Rattle.explain.specs.stop_walks.Step.{whyAfter};
+ghost use Rattle.explain.specs.stops.Copy.{whyString};
+ghost use Rattle.explain.specs.stop_walks.Step.{Says, AnyTables};
 use crate::stop_walks::Step;
 use crate::stops::Why;
 use array_data::lent_tables;
@@ -57,7 +54,7 @@ pub fn step_string(
 ) -> Step
     requires { ⌜ (first < 2 ^ 32) × (i < 32) × (slot + n < 2 ^ 63) ⌝ }
     requires { ⌜ ((w ≡ 4 → ⊥) → w ≡ 8) ⌝ }
-    ensures { λ r. ⌜ ((parts lengths : List ℕ) (source depth : ℕ) → let j = join (was plan) parts lengths (was places) (was body) first source in whyString j (copyWalk j depth) (whyCopy j depth) w i slot n (was counters) ≡ whyAfter j depth r (was counters)) ⌝ }
+    ensures { λ r. ⌜ AnyTables plan places body first (λ j depth. Says j depth (λ c y. whyString j c y w i slot n) (was counters) r (was counters)) ⌝ }
 {
     if n == 0 {
         return Step::On;

@@ -1,15 +1,14 @@
 // Stops at unions: the first child of a sparse one, the first row of a dense one.
-ghost use mathlib.Core.Path.{_≡_};
 ghost use mathlib.Core.List.{[]};
 ghost use Prim.Native.Nat.{_+_, _*_, _<_, _≤_, _^_};
 ghost use lib.ListN.{length};
 ghost use Rattle.clauses.specs.Slices.{was, left};
 ghost use Rattle.walk.specs.State.{place};
-ghost use Rattle.walk.specs.Copy.{denseRow, copyWalk};
+ghost use Rattle.walk.specs.Copy.{denseRow};
 ghost use Rattle.leaf_walk.specs.Join.{join};
 ghost use Rattle.leaf_walk.specs.Walks.{lentJoin};
-ghost use Rattle.explain.specs.stops.Copy.{whySparse, whyDenseRow, whyDense, whyCopy};
-ghost use Rattle.explain.specs.stop_walks.Step.{whyAfter, RowSays};
+ghost use Rattle.explain.specs.stops.Copy.{whySparse, whyDenseRow, whyDense};
+ghost use Rattle.explain.specs.stop_walks.Step.{Says, RowAt};
 use crate::stop_walks::Step;
 use crate::stops::Why;
 use array_data::lent_tables;
@@ -36,7 +35,7 @@ pub fn step_sparse(
     depth: u32,
 ) -> Step
     requires { ⌜ (first < 2 ^ 32) × (source < 2 ^ 32) × (i < 32) × (slot + n < 2 ^ 63) ⌝ }
-    ensures { λ r. let j = lentJoin plan parts lengths places body first source in ⌜ whySparse j (copyWalk j depth) (whyCopy j depth) i slot n (was counters) ≡ whyAfter j depth r (left counters) ⌝ }
+    ensures { λ r. let j = lentJoin plan parts lengths places body first source in ⌜ Says j depth (λ c y. whySparse j c y i slot n) (was counters) r (left counters) ⌝ }
 {
     if !leaf_walk::rows_in(body, lent_tables::place(places, first + i, 3), 1, slot, n) {
         return Step::Here(crate::stop_walks::plain(FOREIGN));
@@ -90,7 +89,7 @@ fn dense_row(
 ) -> Step
     requires { ⌜ (first < 2 ^ 32) × (source < 2 ^ 32) × (i < 32) × (slot + r + 1 < 2 ^ 63) ⌝ }
     requires { let j = join [] [] (now lengths) (now places) (now body) first 0 in ⌜ (place j i 3 + (slot + r + 1) ≤ length (now body)) × (place j i 5 + 4 * (slot + r + 1) ≤ length (now body)) ⌝ }
-    ensures { λ s. let j = lentJoin plan parts lengths places body first source in let c = copyWalk j depth in ⌜ RowSays (denseRow j c i slot r (was counters)) (whyDenseRow j c (whyCopy j depth) i slot r (was counters)) j depth s (left counters) ⌝ }
+    ensures { λ s. let j = lentJoin plan parts lengths places body first source in ⌜ RowAt j depth (denseRow j) (whyDenseRow j) i slot r (was counters) s (left counters) ⌝ }
 {
     let at = lent_tables::place(places, first + i, 3) + (slot + r);
     let id = body[at as usize];
@@ -141,7 +140,7 @@ pub fn step_dense(
     depth: u32,
 ) -> Step
     requires { ⌜ (first < 2 ^ 32) × (source < 2 ^ 32) × (i < 32) × (slot + n < 2 ^ 63) ⌝ }
-    ensures { λ r. let j = lentJoin plan parts lengths places body first source in ⌜ whyDense j (copyWalk j depth) (whyCopy j depth) i slot n (was counters) ≡ whyAfter j depth r (left counters) ⌝ }
+    ensures { λ r. let j = lentJoin plan parts lengths places body first source in ⌜ Says j depth (λ c y. whyDense j c y i slot n) (was counters) r (left counters) ⌝ }
 {
     if !nested_rows::pairs_in(places, body, first, i, 1, 4, slot, n) {
         return Step::Here(crate::stop_walks::plain(FOREIGN));

@@ -1,15 +1,13 @@
 // The data buffers of views as the finished array names them: those of all sources, in order.
 // Follows `into_builder` of arrow-data 60.1.0 src/transform/mod.rs, Apache-2.0; see NOTICE.
 ghost use mathlib.Core.Path.{_≡_};
-ghost use mathlib.Core.List.{[]};
-ghost use Prim.Native.Nat.{_+_, _*_, _<_, _≤_, _^_, min};
+ghost use Prim.Native.Nat.{_+_, _*_, _<_, _≤_, min};
 ghost use lib.ListN.{length, getD};
 ghost use Rattle.clauses.specs.Slices.{was, left};
 ghost use Rattle.columnar.specs.Row.{seg};
 ghost use Rattle.plan.specs.parts.Parts.{nodesOf};
 ghost use Rattle.refinement.specs.orders.Order.{sourceCount};
-ghost use Rattle.refinement.specs.finishing.Finish.{buffersOf, buffersFrom};
-ghost use Rattle.into_builder.specs.buffers.Names.{lent, countAt, countBefore, namesAt, namesBefore, Behind};
+ghost use Rattle.into_builder.specs.buffers.Names.{viewCount, viewNames, countAt, countBefore, namesAt, namesBefore, Behind};
 use array_data::lent_tables;
 use plan::dictionaries;
 use walk::plan_words;
@@ -79,8 +77,8 @@ fn view_names(
     names: &mut [u64],
     at: usize,
 )
-    requires { ⌜ (i < 32) × (at + 2 * buffersOf (lent (now plan) [] (now sources) [] (now places) []) [] [] [] 0 i (min (sourceCount (now plan)) 16) ≤ length (now names)) ⌝ }
-    ensures { λ _. let l = lent (was plan) [] (was sources) [] (was places) [] in let m = min (sourceCount (was plan)) 16 in ⌜ Behind (was names) (left names) at (2 * buffersOf l [] [] [] 0 i m) (buffersFrom l (was buffers) [] [] 0 i m) ⌝ }
+    requires { ⌜ (i < 32) × (at + 2 * viewCount (now plan) (now sources) (now places) i ≤ length (now names)) ⌝ }
+    ensures { λ _. ⌜ Behind (was names) (left names) at (2 * viewCount (was plan) (was sources) (was places) i) (viewNames (was plan) (was sources) (was places) (was buffers) i) ⌝ }
 {
     let m = source_count(plan);
     let mut end = at;

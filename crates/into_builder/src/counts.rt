@@ -3,19 +3,18 @@
 ghost use mathlib.Core.Path.{_≡_};
 ghost use mathlib.Core.Bool.{true, cond};
 ghost use mathlib.Core.List.{[]};
-ghost use Prim.Native.Nat.{ℕ, _+_, _*_, _/_, _%_, _<_, _^_};
+ghost use Prim.Native.Nat.{_+_, _*_, _/_, _%_, _<_, _^_};
 ghost use lib.ListN.{length};
 ghost use lib.Dec.{ltb, eqb};
 ghost use Rattle.clauses.specs.Slices.{was, left};
-ghost use Rattle.columnar.specs.Test.{every};
 ghost use Rattle.walk.specs.State.{far};
 ghost use Rattle.walk.specs.Log.{startOf};
 ghost use Rattle.array_data.specs.lent_tables.Lent.{tables};
 ghost use Rattle.array_data.specs.Tables.{lengthOf, offsetOf};
 ghost use Rattle.plan.specs.parts.Parts.{nodesOf};
 ghost use Rattle.refinement.specs.finishing.Finish.{nullsAt, lengthAt, offsetAt, lengthTable, nullTable};
-ghost use Rattle.into_builder.specs.buffers.Names.{lent};
-ghost use Rattle.into_builder.specs.counts.Counts.{keptOf, zerosOf, BitsIn};
+ghost use Rattle.into_builder.specs.buffers.Names.{lent, lentAll};
+ghost use Rattle.into_builder.specs.counts.Counts.{keptOf, allKept, zerosOf, BitsIn, AllBitsIn};
 use array_data::lent_tables;
 use plan::dictionaries;
 use walk::plan_words;
@@ -110,7 +109,7 @@ fn kept_in(
 
 // Whether that holds of every node: ground 12 where not.
 pub fn all_kept(plan: &[u64], sources: &[u32], lengths: &[u64], places: &[u64], body: &[u8]) -> bool
-    ensures { λ r. ⌜ r ≡ every (keptOf (was plan) (was sources) (was lengths) (was places) (was body)) (nodesOf (was plan)) ⌝ }
+    ensures { λ r. ⌜ r ≡ allKept (was plan) (was sources) (was lengths) (was places) (was body) ⌝ }
 {
     let n = plan::parts::node_count(plan);
     let mut i = 0;
@@ -157,7 +156,7 @@ fn nulls_at(
     i: usize,
 ) -> u64
     requires { ⌜ (i < 32) × BitsIn (now plan) (now parts) (now counters) (length (now room)) i × (keptOf (now plan) (now sources) (now lengths) (now places) (now body) i ≡ true) ⌝ }
-    ensures { λ r. ⌜ r ≡ nullsAt (lent (was plan) (was parts) (was sources) (was lengths) (was places) (was body)) [] (was counters) (was room) 0 i ⌝ }
+    ensures { λ r. ⌜ r ≡ nullsAt (lentAll plan parts sources lengths places body) [] (was counters) (was room) 0 i ⌝ }
 {
     if plan::parts::is_copied(plan, i) {
         return zeros_at(plan, parts, counters, room, i);
@@ -178,8 +177,8 @@ pub fn write_nulls(
     room: &[u8],
     table: &mut [u64],
 )
-    requires { ⌜ (length (now table) ≡ nodesOf (now plan)) × ((i : ℕ) → i < nodesOf (now plan) → BitsIn (now plan) (now parts) (now counters) (length (now room)) i) × (every (keptOf (now plan) (now sources) (now lengths) (now places) (now body)) (nodesOf (now plan)) ≡ true) ⌝ }
-    ensures { λ _. ⌜ left table ≡ nullTable (lent (was plan) (was parts) (was sources) (was lengths) (was places) (was body)) [] (was counters) (was room) 0 ⌝ }
+    requires { let p = now plan in ⌜ (length (now table) ≡ nodesOf p) × AllBitsIn p (now parts) (now counters) (now room) × (allKept p (now sources) (now lengths) (now places) (now body) ≡ true) ⌝ }
+    ensures { λ _. ⌜ left table ≡ nullTable (lentAll plan parts sources lengths places body) [] (was counters) (was room) 0 ⌝ }
 {
     let n = plan::parts::node_count(plan);
     let mut i = 0;

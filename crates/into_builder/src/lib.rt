@@ -6,8 +6,7 @@ pub mod places;
 
 ghost use mathlib.Core.Path.{_≡_};
 ghost use mathlib.Core.Bool.{_&&_};
-ghost use mathlib.Core.List.{List};
-ghost use Prim.Native.Nat.{ℕ, _*_};
+ghost use Prim.Native.Nat.{_*_};
 ghost use lib.ListN.{length};
 ghost use lib.Dec.{leb, eqb};
 ghost use Rattle.clauses.specs.Slices.{was};
@@ -15,7 +14,7 @@ ghost use Rattle.walk.specs.State.{nulls};
 ghost use Rattle.plan.specs.parts.Parts.{nodesOf, partsWithin, partsHold};
 ghost use Rattle.columns.specs.Grounds.{ceiling};
 ghost use Rattle.refinement.specs.finishing.Finish.{buffersBefore, finishing};
-ghost use Rattle.into_builder.specs.buffers.Names.{lent, countBefore};
+ghost use Rattle.into_builder.specs.buffers.Names.{lentAll, countBefore, AnyOther};
 ghost use Rattle.into_builder.specs.Answer.{Finishes};
 use array_data::lent_tables;
 use walk::plan_words;
@@ -24,7 +23,7 @@ use walk::plan_words;
 
 // How many data buffers the finished array names: the table of them has two numbers for each.
 pub fn buffer_total(plan: &[u64], sources: &[u32], places: &[u64]) -> u64
-    ensures { λ r. ⌜ ((parts lengths body buffers counters room : List ℕ) (base : ℕ) → r ≡ buffersBefore (lent (was plan) parts (was sources) lengths (was places) body) buffers counters room base (nodesOf (was plan))) ⌝ }
+    ensures { λ r. ⌜ AnyOther (was plan) (was sources) (was places) (λ l buffers counters room base. r ≡ buffersBefore l buffers counters room base (nodesOf (was plan))) ⌝ }
 {
     buffers::count_before(plan, sources, places, plan::parts::node_count(plan))
 }
@@ -86,7 +85,7 @@ fn tables_fit(
     spots: usize,
     names: usize,
 ) -> bool
-    ensures { λ r. let n = nodesOf (was plan) in ⌜ r ≡ (eqb lengths (2 * nodesOf (was plan)) && eqb nulls n && eqb spots (9 * nodesOf (was plan)) && eqb names (2 * countBefore (was plan) (was sources) (was places) n)) ⌝ }
+    ensures { λ r. let n = nodesOf (was plan) in ⌜ r ≡ (eqb lengths (2 * n) && eqb nulls n && eqb spots (9 * n) && eqb names (2 * countBefore (was plan) (was sources) (was places) n)) ⌝ }
 {
     let n = plan::parts::node_count(plan);
     let total = buffers::count_before(plan, sources, places, n);
@@ -114,7 +113,7 @@ pub fn into_builder(
     new_places: &mut [u64],
     new_buffers: &mut [u64],
 ) -> u8
-    ensures { λ r. ⌜ Finishes (finishing (lent (was plan) (was parts) (was sources) (was lengths) (was places) (was body)) (was buffers) (was counters) (was room) base) «new_lengths» «new_nulls» «new_places» «new_buffers» r ⌝ }
+    ensures { λ r. ⌜ Finishes (finishing (lentAll plan parts sources lengths places body) (was buffers) (was counters) (was room) base) «new_lengths» «new_nulls» «new_places» «new_buffers» r ⌝ }
 {
     if !sizes_fit(base, room.len()) {
         return 9;

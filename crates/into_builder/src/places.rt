@@ -12,7 +12,7 @@ ghost use Rattle.walk.specs.Log.{startOf};
 ghost use Rattle.schema.specs.formats.Code.{isView};
 ghost use Rattle.plan.specs.parts.Parts.{nodesOf, hasPart, neededBy, needed};
 ghost use Rattle.refinement.specs.finishing.Finish.{nullsAt, nullTable, bufferStart, bufferSize, copiedPlace, keptPlace, placeAt, placeTable};
-ghost use Rattle.into_builder.specs.buffers.Names.{lent, countAt, countBefore};
+ghost use Rattle.into_builder.specs.buffers.Names.{lent, countAt, countBefore, AnyOther, AnyBody};
 ghost use Rattle.into_builder.specs.counts.Counts.{zerosOf};
 ghost use Rattle.into_builder.specs.places.Places.{Placed, validPlace};
 use crate::buffers;
@@ -144,7 +144,7 @@ fn copied_place(
     j: usize,
 ) -> u64
     requires { ⌜ (i < nodesOf (now plan)) × (j < 9) × Placed (now plan) (now parts) (now counters) base i ⌝ }
-    ensures { λ r. ⌜ ((lengths body buffers room : List ℕ) → zeros ≡ zerosOf (was plan) (was parts) (was counters) room i → r ≡ copiedPlace (lent (was plan) (was parts) (was sources) lengths (was places) body) buffers (was counters) room base i j) ⌝ }
+    ensures { λ r. ⌜ AnyBody plan parts sources places (λ l buffers room. zeros ≡ zerosOf (was plan) (was parts) (was counters) room i → r ≡ copiedPlace l buffers (was counters) room base i j) ⌝ }
 {
     if j < 3 {
         return valid_place(plan, parts, counters, base, zeros, i, j);
@@ -167,7 +167,7 @@ fn copied_place(
 // Number j of the nine of node i, a kept dictionary with `count` nulls: the places of source 0, those of its validity only if a bit is 0.
 fn kept_place(sources: &[u32], places: &[u64], count: u64, i: usize, j: usize) -> u64
     requires { ⌜ (i < 32) × (j < 9) ⌝ }
-    ensures { λ r. ⌜ ((plan parts lengths body buffers counters room : List ℕ) (base : ℕ) → let l = lent plan parts (was sources) lengths (was places) body in count ≡ nullsAt l buffers counters room base i → r ≡ keptPlace l buffers counters room base i j) ⌝ }
+    ensures { λ r. ⌜ ((plan : List ℕ) → AnyOther plan (was sources) (was places) (λ l b c m base. count ≡ nullsAt l b c m base i → r ≡ keptPlace l b c m base i j)) ⌝ }
 {
     let k = dictionaries::node_of(sources, 0, i);
     if j < 3 {
@@ -195,7 +195,7 @@ fn place_at(
     j: usize,
 ) -> u64
     requires { ⌜ (i < nodesOf (now plan)) × (j < 9) × Placed (now plan) (now parts) (now counters) base i ⌝ }
-    ensures { λ r. ⌜ ((lengths body buffers room : List ℕ) → let l = lent (was plan) (was parts) (was sources) lengths (was places) body in was nulls ≡ nullTable l [] (was counters) room 0 → r ≡ placeAt l buffers (was counters) room base i j) ⌝ }
+    ensures { λ r. ⌜ AnyBody plan parts sources places (λ l buffers room. was nulls ≡ nullTable l [] (was counters) room 0 → r ≡ placeAt l buffers (was counters) room base i j) ⌝ }
 {
     let count = lent_tables::at_u64(nulls, i);
     if plan::parts::is_copied(plan, i) {
@@ -216,7 +216,7 @@ pub fn write_places(
     table: &mut [u64],
 )
     requires { ⌜ (length (now table) ≡ 9 * nodesOf (now plan)) × ((i : ℕ) → i < nodesOf (now plan) → Placed (now plan) (now parts) (now counters) base i) ⌝ }
-    ensures { λ _. ⌜ ((lengths body buffers room : List ℕ) → let l = lent (was plan) (was parts) (was sources) lengths (was places) body in was nulls ≡ nullTable l [] (was counters) room 0 → left table ≡ placeTable l buffers (was counters) room base) ⌝ }
+    ensures { λ _. ⌜ AnyBody plan parts sources places (λ l buffers room. was nulls ≡ nullTable l [] (was counters) room 0 → left table ≡ placeTable l buffers (was counters) room base) ⌝ }
 {
     let n = 9 * plan::parts::node_count(plan);
     let mut q = 0;

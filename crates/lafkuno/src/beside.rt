@@ -1,8 +1,8 @@
 // Calls beside the join: they read columns and answer numbers.
 ghost use mathlib.Core.Path.{_≡_};
-ghost use mathlib.Core.Bool.{_&&_};
 ghost use lib.ListN.{length};
-ghost use Rattle.source_rules.specs.kinds.Rows.{tablesOf};
+ghost use Rattle.clauses.specs.Slices.{was};
+ghost use Rattle.with_capacities.specs.Answer.{lentTables};
 ghost use Rattle.frames.specs.Box.{boxOf};
 ghost use Rattle.lafkuno.specs.Beside.{sides, frameOf, four, frameGround, frameAfter, joinGround, joinAfter};
 use frames::Boxed;
@@ -11,7 +11,7 @@ use frames::Frame;
 // ---- the box around a trip's stops
 
 fn is_four(s: &[f64]) -> bool
-    ensures { λ r. ⌜ r ≡ four (now (s .entry)) ⌝ }
+    ensures { λ r. ⌜ r ≡ four (was s) ⌝ }
 {
     s.len() == 4
 }
@@ -28,7 +28,7 @@ fn put_frame(room: &mut [f64], f: Frame)
 
 fn get_frame(s: &[f64]) -> Frame
     requires { ⌜ length (now s) ≡ 4 ⌝ }
-    ensures { λ r. ⌜ r ≡ frameOf (now (s .entry)) ⌝ }
+    ensures { λ r. ⌜ r ≡ frameOf (was s) ⌝ }
 {
     Frame {
         south: s[0],
@@ -56,8 +56,8 @@ pub extern "C" fn lafkuno_frame(
     end: u64,
     room: &mut [f64],
 ) -> u8
-    ensures { λ r. ⌜ r ≡ frameGround (boxOf (now (formats .entry)) (now (schema .entry)) (tablesOf (now (lengths .entry)) (now (places .entry)) (now (buffers .entry)) (now (body .entry))) «first_a» «n_a» «first_b» «n_b» start end) (now (room .entry)) ⌝ }
-    ensures { λ _. ⌜ now (room .exit) ≡ frameAfter (boxOf (now (formats .entry)) (now (schema .entry)) (tablesOf (now (lengths .entry)) (now (places .entry)) (now (buffers .entry)) (now (body .entry))) «first_a» «n_a» «first_b» «n_b» start end) (now (room .entry)) ⌝ }
+    ensures { λ r. ⌜ r ≡ frameGround (boxOf (was formats) (was schema) (lentTables lengths places buffers body) «first_a» «n_a» «first_b» «n_b» start end) (was room) ⌝ }
+    ensures { λ _. ⌜ now (room .exit) ≡ frameAfter (boxOf (was formats) (was schema) (lentTables lengths places buffers body) «first_a» «n_a» «first_b» «n_b» start end) (was room) ⌝ }
 {
     let answer = frames::box_of(
         formats,

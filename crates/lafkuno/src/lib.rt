@@ -3,18 +3,18 @@ ghost use mathlib.Core.Path.{_≡_};
 ghost use mathlib.Core.List.{List, []};
 ghost use Prim.Native.Nat.{ℕ};
 ghost use Rattle.clauses.specs.Slices.{was, left};
-ghost use Rattle.source_rules.specs.kinds.Rows.{tablesOf};
 ghost use Rattle.walk.specs.State.{nulls};
 ghost use Rattle.plan.specs.parts.Parts.{nodesOf, partTotal, partAt};
-ghost use Rattle.refinement.specs.orders.Order.{copyOrder, nullOrder};
+ghost use Rattle.refinement.specs.orders.Order.{lent, copyOrder, nullOrder};
+ghost use Rattle.with_capacities.specs.Lent.{lentAll, AnyLent};
 ghost use Rattle.refinement.specs.orders.Measure.{copyMeasure, nullMeasure, neededBytes};
 ghost use Rattle.refinement.specs.opening.Open.{opening};
 ghost use Rattle.refinement.specs.opening.Ask.{asked, openMeasure};
 ghost use Rattle.refinement.specs.finishing.Finish.{buffersBefore, finishing};
-ghost use Rattle.with_capacities.specs.Answer as Opened;
-ghost use Rattle.with_capacities.specs.Answer.{Plans};
-ghost use Rattle.transform.specs.Answer.{lent, Answers};
-ghost use Rattle.into_builder.specs.Answer as Finished;
+ghost use Rattle.with_capacities.specs.Answer.{Makes, Plans, lentTables};
+ghost use Rattle.transform.specs.Answer.{Answers};
+ghost use Rattle.into_builder.specs.Answer.{Finishes};
+ghost use Rattle.into_builder.specs.buffers.Names.{AnyOther};
 ghost use Rattle.measure.specs.Answer.{Measures};
 ghost use Rattle.lafkuno.specs.Calls.{keeps, grows, spotNode, spotBuffer};
 use plan::parts::Spot;
@@ -42,7 +42,7 @@ pub extern "C" fn lafkuno_plan_parts(
     gaps: u8,
     plan: &mut [u64],
 ) -> u8
-    ensures { λ r. ⌜ Plans (asked (was formats) (was schema) (was sources) (tablesOf (was lengths) (was places) (was buffers) (was body)) (keeps keep) (grows gaps) (was plan)) r (left plan) ⌝ }
+    ensures { λ r. ⌜ Plans (asked (was formats) (was schema) (was sources) (lentTables lengths places buffers body) (keeps keep) (grows gaps) (was plan)) r (left plan) ⌝ }
 {
     with_capacities::plan_parts(
         sources,
@@ -75,7 +75,7 @@ pub extern "C" fn lafkuno_open(
     counters: &mut [u64],
     room: &mut [u8],
 ) -> u8
-    ensures { λ r. ⌜ Opened.Answers (opening (was formats) (was schema) (was sources) (tablesOf (was lengths) (was places) (was buffers) (was body)) (keeps keep) (grows gaps) (was parts) (was plan) (was counters) (was room)) r (left plan) (left counters) (left room) ⌝ }
+    ensures { λ r. let t = lentTables lengths places buffers body in ⌜ Makes (opening (was formats) (was schema) (was sources) t (keeps keep) (grows gaps) (was parts)) plan counters room r ⌝ }
 {
     with_capacities::try_with_capacities(
         sources,
@@ -141,7 +141,7 @@ pub extern "C" fn lafkuno_copy(
     start: u64,
     end: u64,
 ) -> u8
-    ensures { λ r. ⌜ Answers (copyOrder (lent (was plan) (was parts) (was sources) (was lengths) (was places) (was body)) (was counters) (was room) source start end) r (left counters) (left room) ⌝ }
+    ensures { λ r. ⌜ Answers (copyOrder (lentAll plan parts sources lengths places body) (was counters) (was room) source start end) r (left counters) (left room) ⌝ }
 {
     transform::try_extend(
         plan,
@@ -167,7 +167,7 @@ pub extern "C" fn lafkuno_nulls(
     room: &mut [u8],
     n: u64,
 ) -> u8
-    ensures { λ r. ⌜ ((sources lengths places body : List ℕ) → Answers (nullOrder (lent (was plan) (was parts) sources lengths places body) (was counters) (was room) n) r (left counters) (left room)) ⌝ }
+    ensures { λ r. ⌜ AnyLent plan parts (λ l. Answers (nullOrder l (was counters) (was room) n) r (left counters) (left room)) ⌝ }
 {
     transform::try_extend_nulls(plan, parts, counters, room, n)
 }
@@ -192,7 +192,7 @@ pub extern "C" fn lafkuno_finish(
     new_places: &mut [u64],
     new_buffers: &mut [u64],
 ) -> u8
-    ensures { λ r. ⌜ Finished.Answers (finishing (lent (was plan) (was parts) (was sources) (was lengths) (was places) (was body)) (was buffers) (was counters) (was room) base (was «new_lengths») (was «new_nulls») (was «new_places») (was «new_buffers»)) r (left «new_lengths») (left «new_nulls») (left «new_places») (left «new_buffers») ⌝ }
+    ensures { λ r. ⌜ Finishes (finishing (lentAll plan parts sources lengths places body) (was buffers) (was counters) (was room) base) «new_lengths» «new_nulls» «new_places» «new_buffers» r ⌝ }
 {
     into_builder::into_builder(
         plan,
@@ -215,7 +215,7 @@ pub extern "C" fn lafkuno_finish(
 // How many data buffers the finished array names: the table of them has two numbers for each.
 #[no_mangle]
 pub extern "C" fn lafkuno_buffer_total(plan: &[u64], sources: &[u32], places: &[u64]) -> u64
-    ensures { λ r. ⌜ ((parts lengths body buffers counters room : List ℕ) (base : ℕ) → r ≡ buffersBefore (lent (was plan) parts (was sources) lengths (was places) body) buffers counters room base (nodesOf (was plan))) ⌝ }
+    ensures { λ r. ⌜ AnyOther (was plan) (was sources) (was places) (λ l buffers counters room base. r ≡ buffersBefore l buffers counters room base (nodesOf (was plan))) ⌝ }
 {
     into_builder::buffer_total(plan, sources, places)
 }

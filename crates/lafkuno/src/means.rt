@@ -1,7 +1,7 @@
 // Exact sums of one column and of two.
 ghost use mathlib.Core.Path.{_≡_};
 ghost use Rattle.clauses.specs.Slices.{was, left};
-ghost use Rattle.source_rules.specs.kinds.Rows.{tablesOf};
+ghost use Rattle.with_capacities.specs.Answer.{lentTables};
 ghost use Rattle.row_reader.specs.runs.Answers.{ground};
 ghost use Rattle.aggregates.specs.Report.{meanReport, ratioReport};
 ghost use Rattle.lafkuno.specs.Sums.{flagOf, meanWords, ratioWords, meanGround, meanNumbers, ratioGround, ratioNumbers};
@@ -60,8 +60,8 @@ pub extern "C" fn lafkuno_mean(
     end: u64,
     answer: &mut [u64],
 ) -> u8
-    ensures { λ r. ⌜ r ≡ meanGround (meanReport (was formats) (was schema) (tablesOf (was lengths) (was places) (was buffers) (was body)) first n start end) (was answer) ⌝ }
-    ensures { λ _. ⌜ left answer ≡ meanNumbers (meanReport (was formats) (was schema) (tablesOf (was lengths) (was places) (was buffers) (was body)) first n start end) (was answer) ⌝ }
+    ensures { λ r. ⌜ r ≡ meanGround (meanReport (was formats) (was schema) (lentTables lengths places buffers body) first n start end) (was answer) ⌝ }
+    ensures { λ _. ⌜ left answer ≡ meanNumbers (meanReport (was formats) (was schema) (lentTables lengths places buffers body) first n start end) (was answer) ⌝ }
 {
     match aggregates::mean(
         formats,
@@ -105,8 +105,8 @@ pub extern "C" fn lafkuno_ratio(
     end: u64,
     answer: &mut [u64],
 ) -> u8
-    ensures { λ r. ⌜ r ≡ ratioGround (ratioReport (was formats) (was schema) (tablesOf (was lengths) (was places) (was buffers) (was body)) «first_a» «n_a» «first_b» «n_b» start end) (was answer) ⌝ }
-    ensures { λ _. ⌜ left answer ≡ ratioNumbers (ratioReport (was formats) (was schema) (tablesOf (was lengths) (was places) (was buffers) (was body)) «first_a» «n_a» «first_b» «n_b» start end) (was answer) ⌝ }
+    ensures { λ r. ⌜ r ≡ ratioGround (ratioReport (was formats) (was schema) (lentTables lengths places buffers body) «first_a» «n_a» «first_b» «n_b» start end) (was answer) ⌝ }
+    ensures { λ _. ⌜ left answer ≡ ratioNumbers (ratioReport (was formats) (was schema) (lentTables lengths places buffers body) «first_a» «n_a» «first_b» «n_b» start end) (was answer) ⌝ }
 {
     match aggregates::ratio(
         formats,

@@ -1,7 +1,7 @@
 // Whether two rows read the same.
 ghost use mathlib.Core.Path.{_≡_};
 ghost use Rattle.clauses.specs.Slices.{was, left};
-ghost use Rattle.source_rules.specs.kinds.Rows.{tablesOf};
+ghost use Rattle.with_capacities.specs.Answer.{lentTables};
 ghost use Rattle.row_reader.specs.row_pair.Same.{sameRow};
 ghost use Rattle.lafkuno.specs.Same.{sameGround, sameNumbers};
 use crate::means;
@@ -28,8 +28,8 @@ pub extern "C" fn lafkuno_same_row(
     row_b: u64,
     answer: &mut [u64],
 ) -> u8
-    ensures { λ r. ⌜ r ≡ sameGround (sameRow (was formats) (was schema) (tablesOf (was lengths) (was places) (was buffers) (was body)) «first_a» «n_a» «first_b» «n_b» «row_a» «row_b») (was answer) ⌝ }
-    ensures { λ _. ⌜ left answer ≡ sameNumbers (sameRow (was formats) (was schema) (tablesOf (was lengths) (was places) (was buffers) (was body)) «first_a» «n_a» «first_b» «n_b» «row_a» «row_b») (was answer) ⌝ }
+    ensures { λ r. ⌜ r ≡ sameGround (sameRow (was formats) (was schema) (lentTables lengths places buffers body) «first_a» «n_a» «first_b» «n_b» «row_a» «row_b») (was answer) ⌝ }
+    ensures { λ _. ⌜ left answer ≡ sameNumbers (sameRow (was formats) (was schema) (lentTables lengths places buffers body) «first_a» «n_a» «first_b» «n_b» «row_a» «row_b») (was answer) ⌝ }
 {
     match row_pair::same_row(
         formats,

@@ -3,7 +3,8 @@ ghost use mathlib.Core.Path.{_≡_};
 ghost use mathlib.Core.List.{[]};
 ghost use Prim.Native.Nat.{_+_, _*_, _≤_};
 ghost use Rattle.clauses.specs.Slices.{was, left};
-ghost use Rattle.transform.specs.Answer.{lent};
+ghost use Rattle.refinement.specs.orders.Order.{lent};
+ghost use Rattle.with_capacities.specs.Lent.{lentAll};
 ghost use Rattle.trip.specs.Trip.{longest, callsOf, tripOrder, tripMeasure};
 ghost use Rattle.lafkuno.specs.Trips.{Carries, Asks};
 use trip::Ended;
@@ -28,7 +29,7 @@ pub extern "C" fn lafkuno_orders(
     room: &mut [u8],
     orders: &[u64],
 ) -> u32
-    ensures { λ r. ⌜ Carries (tripOrder (lent (was plan) (was parts) (was sources) (was lengths) (was places) (was body)) (was counters) (was room) (callsOf (was orders))) r (left counters) (left room) ⌝ }
+    ensures { λ r. ⌜ Carries (tripOrder (lentAll plan parts sources lengths places body) (was counters) (was room) (callsOf (was orders))) r (left counters) (left room) ⌝ }
 {
     answer_word(trip::orders(
         plan,

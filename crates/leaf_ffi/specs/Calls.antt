@@ -24,6 +24,10 @@ insideOffsets room at body from w n = inside room at w n && inside body from w (
 abbrev pub insideBits : ℕ → ℕ → ℕ → ℕ → Bool
 insideBits len at b n = leb (8 * at + b + n) (8 * len)
 
+-- n bits lie inside the room, and as many inside the body
+abbrev pub insideBitsBoth : ℕ → ℕ → ℕ → ℕ → ℕ → ℕ → ℕ → Bool
+insideBitsBoth room at b body from a n = insideBits room at b n && insideBits body from a n
+
 -- the run of a row, and n where the row is past the last of n runs
 abbrev pub runOf : ℕ → Found → ℕ
 runOf n (Run run left) = run .0

@@ -1,15 +1,16 @@
 // The leaves as calls for a driver in another language, by which their speed is measured.
 // Each call tests its ranges; where one does not lie inside its slice, it writes nothing and answers REFUSED.
 ghost use mathlib.Core.Path.{_≡_};
-ghost use mathlib.Core.Bool.{cond, _&&_};
+ghost use mathlib.Core.Bool.{cond};
 ghost use Prim.Native.Nat.{_+_, _*_, _≤_, _<_};
 ghost use lib.ListN.{length, take, drop, replicate};
+ghost use Rattle.clauses.specs.Slices.{was, left};
 ghost use Rattle.number.specs.Number.{splice};
 ghost use Rattle.bits.specs.Bits.{bitsAt, putBits, zeros};
 ghost use Rattle.utils.specs.Offsets.{movedOffsets};
 ghost use Rattle.utils.specs.primitive.Primitive.{rebased};
 ghost use Rattle.utils.specs.byte_view.View.{reviewed};
-ghost use Rattle.leaf_ffi.specs.Calls.{inside, insideBoth, insideOffsets, insideBits, runOf, runSum};
+ghost use Rattle.leaf_ffi.specs.Calls.{inside, insideBoth, insideOffsets, insideBits, insideBitsBoth, runOf, runSum};
 
 // The answer of a call that is refused. A call that is done answers 0, or a count.
 pub const REFUSED: usize = usize::MAX;
@@ -73,8 +74,8 @@ pub extern "C" fn lafkuno_leaf_copy_bytes(
     from: usize,
     n: usize,
 ) -> usize
-    ensures { λ _. ⌜ now (room .exit) ≡ cond (insideBoth (length (now (room .entry))) at (length (now (body .entry))) from 1 n) (splice at (take n (drop from (now (body .entry)))) (now (room .entry))) (now (room .entry)) ⌝ }
-    ensures { λ r. ⌜ r ≡ cond (insideBoth (length (now (room .entry))) at (length (now (body .entry))) from 1 n) 0 18446744073709551615 ⌝ }
+    ensures { λ _. ⌜ left room ≡ cond (insideBoth (length (was room)) at (length (was body)) from 1 n) (splice at (take n (drop from (was body))) (was room)) (was room) ⌝ }
+    ensures { λ r. ⌜ r ≡ cond (insideBoth (length (was room)) at (length (was body)) from 1 n) 0 18446744073709551615 ⌝ }
 {
     if within_both(room.len(), at, body.len(), from, 1, n) {
         number::copy::copy_bytes(room, at, body, from, n);
@@ -85,8 +86,8 @@ pub extern "C" fn lafkuno_leaf_copy_bytes(
 
 #[no_mangle]
 pub extern "C" fn lafkuno_leaf_fill_zeros(room: &mut [u8], at: usize, n: usize) -> usize
-    ensures { λ _. ⌜ now (room .exit) ≡ cond (inside (length (now (room .entry))) at 1 n) (splice at (replicate n 0) (now (room .entry))) (now (room .entry)) ⌝ }
-    ensures { λ r. ⌜ r ≡ cond (inside (length (now (room .entry))) at 1 n) 0 18446744073709551615 ⌝ }
+    ensures { λ _. ⌜ left room ≡ cond (inside (length (was room)) at 1 n) (splice at (replicate n 0) (was room)) (was room) ⌝ }
+    ensures { λ r. ⌜ r ≡ cond (inside (length (was room)) at 1 n) 0 18446744073709551615 ⌝ }
 {
     if within(room.len(), at, 1, n) {
         number::copy::fill_zeros(room, at, n);
@@ -104,8 +105,8 @@ pub extern "C" fn lafkuno_leaf_extend_offsets_i32(
     n: usize,
     last: u32,
 ) -> usize
-    ensures { λ _. ⌜ now (room .exit) ≡ cond (insideOffsets (length (now (room .entry))) at (length (now (body .entry))) from 4 n) (splice at (movedOffsets 4 (now (body .entry)) from last n) (now (room .entry))) (now (room .entry)) ⌝ }
-    ensures { λ r. ⌜ r ≡ cond (insideOffsets (length (now (room .entry))) at (length (now (body .entry))) from 4 n) 0 18446744073709551615 ⌝ }
+    ensures { λ _. ⌜ left room ≡ cond (insideOffsets (length (was room)) at (length (was body)) from 4 n) (splice at (movedOffsets 4 (was body) from last n) (was room)) (was room) ⌝ }
+    ensures { λ r. ⌜ r ≡ cond (insideOffsets (length (was room)) at (length (was body)) from 4 n) 0 18446744073709551615 ⌝ }
 {
     if within_offsets(room.len(), at, body.len(), from, 4, n) {
         utils::extend_offsets_i32(room, at, body, from, n, last);
@@ -123,8 +124,8 @@ pub extern "C" fn lafkuno_leaf_extend_offsets_i64(
     n: usize,
     last: u64,
 ) -> usize
-    ensures { λ _. ⌜ now (room .exit) ≡ cond (insideOffsets (length (now (room .entry))) at (length (now (body .entry))) from 8 n) (splice at (movedOffsets 8 (now (body .entry)) from last n) (now (room .entry))) (now (room .entry)) ⌝ }
-    ensures { λ r. ⌜ r ≡ cond (insideOffsets (length (now (room .entry))) at (length (now (body .entry))) from 8 n) 0 18446744073709551615 ⌝ }
+    ensures { λ _. ⌜ left room ≡ cond (insideOffsets (length (was room)) at (length (was body)) from 8 n) (splice at (movedOffsets 8 (was body) from last n) (was room)) (was room) ⌝ }
+    ensures { λ r. ⌜ r ≡ cond (insideOffsets (length (was room)) at (length (was body)) from 8 n) 0 18446744073709551615 ⌝ }
 {
     if within_offsets(room.len(), at, body.len(), from, 8, n) {
         utils::extend_offsets_i64(room, at, body, from, n, last);
@@ -142,8 +143,8 @@ pub extern "C" fn lafkuno_leaf_extend_with_offset_u8(
     n: usize,
     base: u8,
 ) -> usize
-    ensures { λ _. ⌜ now (room .exit) ≡ cond (insideBoth (length (now (room .entry))) at (length (now (body .entry))) from 1 n) (splice at (rebased 1 (now (body .entry)) from base n) (now (room .entry))) (now (room .entry)) ⌝ }
-    ensures { λ r. ⌜ r ≡ cond (insideBoth (length (now (room .entry))) at (length (now (body .entry))) from 1 n) 0 18446744073709551615 ⌝ }
+    ensures { λ _. ⌜ left room ≡ cond (insideBoth (length (was room)) at (length (was body)) from 1 n) (splice at (rebased 1 (was body) from base n) (was room)) (was room) ⌝ }
+    ensures { λ r. ⌜ r ≡ cond (insideBoth (length (was room)) at (length (was body)) from 1 n) 0 18446744073709551615 ⌝ }
 {
     if within_both(room.len(), at, body.len(), from, 1, n) {
         utils::primitive::extend_with_offset_u8(room, at, body, from, n, base);
@@ -161,8 +162,8 @@ pub extern "C" fn lafkuno_leaf_extend_with_offset_u16(
     n: usize,
     base: u16,
 ) -> usize
-    ensures { λ _. ⌜ now (room .exit) ≡ cond (insideBoth (length (now (room .entry))) at (length (now (body .entry))) from 2 n) (splice at (rebased 2 (now (body .entry)) from base n) (now (room .entry))) (now (room .entry)) ⌝ }
-    ensures { λ r. ⌜ r ≡ cond (insideBoth (length (now (room .entry))) at (length (now (body .entry))) from 2 n) 0 18446744073709551615 ⌝ }
+    ensures { λ _. ⌜ left room ≡ cond (insideBoth (length (was room)) at (length (was body)) from 2 n) (splice at (rebased 2 (was body) from base n) (was room)) (was room) ⌝ }
+    ensures { λ r. ⌜ r ≡ cond (insideBoth (length (was room)) at (length (was body)) from 2 n) 0 18446744073709551615 ⌝ }
 {
     if within_both(room.len(), at, body.len(), from, 2, n) {
         utils::primitive::extend_with_offset_u16(room, at, body, from, n, base);
@@ -180,8 +181,8 @@ pub extern "C" fn lafkuno_leaf_extend_with_offset_u32(
     n: usize,
     base: u32,
 ) -> usize
-    ensures { λ _. ⌜ now (room .exit) ≡ cond (insideBoth (length (now (room .entry))) at (length (now (body .entry))) from 4 n) (splice at (rebased 4 (now (body .entry)) from base n) (now (room .entry))) (now (room .entry)) ⌝ }
-    ensures { λ r. ⌜ r ≡ cond (insideBoth (length (now (room .entry))) at (length (now (body .entry))) from 4 n) 0 18446744073709551615 ⌝ }
+    ensures { λ _. ⌜ left room ≡ cond (insideBoth (length (was room)) at (length (was body)) from 4 n) (splice at (rebased 4 (was body) from base n) (was room)) (was room) ⌝ }
+    ensures { λ r. ⌜ r ≡ cond (insideBoth (length (was room)) at (length (was body)) from 4 n) 0 18446744073709551615 ⌝ }
 {
     if within_both(room.len(), at, body.len(), from, 4, n) {
         utils::primitive::extend_with_offset_u32(room, at, body, from, n, base);
@@ -199,8 +200,8 @@ pub extern "C" fn lafkuno_leaf_extend_views(
     n: usize,
     base: u32,
 ) -> usize
-    ensures { λ _. ⌜ now (room .exit) ≡ cond (insideBoth (length (now (room .entry))) at (length (now (body .entry))) from 16 n) (splice at (reviewed (now (body .entry)) from base n) (now (room .entry))) (now (room .entry)) ⌝ }
-    ensures { λ r. ⌜ r ≡ cond (insideBoth (length (now (room .entry))) at (length (now (body .entry))) from 16 n) 0 18446744073709551615 ⌝ }
+    ensures { λ _. ⌜ left room ≡ cond (insideBoth (length (was room)) at (length (was body)) from 16 n) (splice at (reviewed (was body) from base n) (was room)) (was room) ⌝ }
+    ensures { λ r. ⌜ r ≡ cond (insideBoth (length (was room)) at (length (was body)) from 16 n) 0 18446744073709551615 ⌝ }
 {
     if within_both(room.len(), at, body.len(), from, 16, n) {
         utils::byte_view::extend_views(room, at, body, from, n, base);
@@ -220,8 +221,8 @@ pub extern "C" fn lafkuno_leaf_copy_bits(
     a: usize,
     n: usize,
 ) -> usize
-    ensures { λ _. ⌜ now (room .exit) ≡ cond (insideBits (length (now (room .entry))) at b n && insideBits (length (now (body .entry))) from a n) (putBits (8 * at + b) (bitsAt (8 * from + a) n (now (body .entry))) (now (room .entry))) (now (room .entry)) ⌝ }
-    ensures { λ r. ⌜ r ≡ cond (insideBits (length (now (room .entry))) at b n && insideBits (length (now (body .entry))) from a n) (zeros (bitsAt (8 * from + a) n (now (body .entry)))) 18446744073709551615 ⌝ }
+    ensures { λ _. ⌜ left room ≡ cond (insideBitsBoth (length (was room)) at b (length (was body)) from a n) (putBits (8 * at + b) (bitsAt (8 * from + a) n (was body)) (was room)) (was room) ⌝ }
+    ensures { λ r. ⌜ r ≡ cond (insideBitsBoth (length (was room)) at b (length (was body)) from a n) (zeros (bitsAt (8 * from + a) n (was body))) 18446744073709551615 ⌝ }
 {
     if within_bits(room.len(), at, b, n) {
         if within_bits(body.len(), from, a, n) {
@@ -235,7 +236,7 @@ pub extern "C" fn lafkuno_leaf_copy_bits(
 // Answers how many of the n bits are 0.
 #[no_mangle]
 pub extern "C" fn lafkuno_leaf_count_zeros(body: &[u8], from: usize, a: usize, n: usize) -> usize
-    ensures { λ r. ⌜ r ≡ cond (insideBits (length (now (body .entry))) from a n) (zeros (bitsAt (8 * from + a) n (now (body .entry)))) 18446744073709551615 ⌝ }
+    ensures { λ r. ⌜ r ≡ cond (insideBits (length (was body)) from a n) (zeros (bitsAt (8 * from + a) n (was body))) 18446744073709551615 ⌝ }
 {
     if within_bits(body.len(), from, a, n) {
         return bits::count_zeros(body, from, a, n);
@@ -256,7 +257,7 @@ fn run_of(found: run_ends::Found, n: usize) -> usize
 // The runs of the rows, added modulo 2^64.
 fn run_sum_i32(body: &[u8], from: usize, n: usize, rows: &[u64]) -> usize
     requires { ⌜ from + 4 * n ≤ length (now body) ⌝ }
-    ensures { λ r. ⌜ r ≡ runSum 4 (now (body .entry)) from n (now (rows .entry)) (length (now (rows .entry))) ⌝ }
+    ensures { λ r. ⌜ r ≡ runSum 4 (was body) from n (was rows) (length (was rows)) ⌝ }
 {
     let mut sum = 0;
     let mut i = 0;
@@ -286,7 +287,7 @@ pub extern "C" fn lafkuno_leaf_find_runs_i32(
     n: usize,
     rows: &[u64],
 ) -> usize
-    ensures { λ r. ⌜ r ≡ cond (inside (length (now (body .entry))) from 4 n) (runSum 4 (now (body .entry)) from n (now (rows .entry)) (length (now (rows .entry)))) 18446744073709551615 ⌝ }
+    ensures { λ r. ⌜ r ≡ cond (inside (length (was body)) from 4 n) (runSum 4 (was body) from n (was rows) (length (was rows))) 18446744073709551615 ⌝ }
 {
     if within(body.len(), from, 4, n) {
         return run_sum_i32(body, from, n, rows);

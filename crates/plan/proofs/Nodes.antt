@@ -13,7 +13,7 @@ use Rattle.columnar.specs.Plain.{PlainBody}
 use Rattle.columnar.specs.Dictionary.{Dictionary}
 use Rattle.schema.specs.formats.Code.{Rule, is, begins, table, look, codeAt, isString, isView, isRunEnd}
 use Rattle.schema.specs.formats.Code as formatCode
-use Rattle.model.specs.Opening.{keeps, shared, startOfKeys, allKeysFit}
+use Rattle.model.specs.Opening.{keeps, shared, startOfKeys}
 use Rattle.model.specs.Primitive.{buffersBefore}
 use Rattle.schema.specs.Tree as schemaTree
 use Rattle.schema.specs.Tree.{dictionary, below, childAt, typed, whole, shape}
@@ -38,7 +38,7 @@ use Rattle.plan.proofs.Laws.{holds, holds-not}
 use Rattle.plan.proofs.Codes.{is-false, no-dictionary, run-not-fixed, view-not-fixed}
 use Rattle.plan.proofs.Words.{cond-le, word-is, keep-is, joined-is, base-is}
 use Rattle.columnar.specs.Test.{same}
-use Rattle.plan.proofs.Bases.{view-word, keys-word, keys-joined, start-fits, Named, buffers-typed}
+use Rattle.plan.proofs.Bases.{view-word, keys-word, keys-joined, Named, buffers-typed}
 
 -- ---- a code is a byte
 
@@ -342,7 +342,3 @@ module _ (formats schema : List ℕ) (y : Tables) (sources : List ℕ) (keep gap
       dictionary-base s h =
           base-is formats schema x sources keep gaps few small s i h (omega arith) ∙ keys-word x sources m plan s i (ofStrings p) (keys-no-view i l d) d q
           ∙ sym (ap capped (start-typed tree y sources k p i m s))
-
-      -- .. as it is, where ground 8 lets it through
-      pub dictionary-base-fits : (s : ℕ) → s < m → (c : Number) → allKeysFit c m m dictionaries ≡ true → baseOf plan s i ≡ startOfKeys m dictionaries s
-      dictionary-base-fits s h c f = dictionary-base s h ∙ start-fits c m dictionaries m s h f

@@ -1,15 +1,14 @@
 // The entries of a dictionary that are in use, block by block.
 ghost use mathlib.Core.Path.{_≡_};
 ghost use mathlib.Core.Bool.{true};
-ghost use mathlib.Core.List.{[]};
 ghost use Prim.Native.Nat.{ℕ, _+_, _-_, _^_, _<_, _≤_, max};
 ghost use lib.ListN.{getD};
 ghost use Rattle.clauses.specs.Slices.{was};
 ghost use Rattle.walk.specs.State.{Join, lengthOf};
-ghost use Rattle.leaf_walk.specs.Join.{join};
 ghost use Rattle.leaf_walk.specs.Walks.{lentJoin, Walks};
 ghost use Rattle.reclaim.specs.used_entries.Keys.{rank, Head};
 ghost use Rattle.reclaim.specs.reclaim_walk.Walk.{keysOf, keysIn, runOf, copyRun, copyRuns, copyBlocks};
+ghost use Rattle.reclaim.specs.reclaim_walk.Plain.{alone, lentAlone};
 use array_data::lent_tables;
 use nested_rows::lookups;
 use walk::plan_words;
@@ -29,9 +28,9 @@ fn ranks_at(
     count: u64,
     start: u64,
 ) -> [u64; 513]
-    requires { let j = join (now plan) [] (now lengths) (now places) (now body) first 0 in ⌜ (first < 2 ^ 32) × (keysIn j ≡ true) × (count ≤ 512) × (base + count < 2 ^ 64) × (start ≡ rank (keysOf j) base) ⌝ }
-    requires { ⌜ Head (keysOf (join (now plan) [] (now lengths) (now places) (now body) first 0)) (base + count) (now head) ⌝ }
-    ensures { λ m. ⌜ ((j : ℕ) → j ≤ count → getD m j 0 ≡ rank (keysOf (join (was plan) [] (was lengths) (was places) (was body) first 0)) (base + j)) ⌝ }
+    requires { let j = alone (now plan) (now lengths) (now places) (now body) first in ⌜ (first < 2 ^ 32) × (keysIn j ≡ true) × (count ≤ 512) × (base + count < 2 ^ 64) × (start ≡ rank (keysOf j) base) ⌝ }
+    requires { ⌜ Head (keysOf (alone (now plan) (now lengths) (now places) (now body) first)) (base + count) (now head) ⌝ }
+    ensures { λ m. ⌜ ((j : ℕ) → j ≤ count → getD m j 0 ≡ rank (keysOf (lentAlone plan lengths places body first)) (base + j)) ⌝ }
 {
     let w = lookups::width_at(plan, 0);
     let at = lent_tables::place(places, first, 3);
@@ -122,7 +121,7 @@ fn copy_runs(
     ranks: &[u64; 513],
 ) -> u8
     requires { ⌜ (first < 2 ^ 32) × (count ≤ 512) × (base + count < 2 ^ 64) ⌝ }
-    requires { ⌜ ((j : ℕ) → j ≤ count → getD (now ranks) j 0 ≡ rank (keysOf (join (now plan) [] (now lengths) (now places) (now body) first 0)) (base + j)) ⌝ }
+    requires { ⌜ ((j : ℕ) → j ≤ count → getD (now ranks) j 0 ≡ rank (keysOf (alone (now plan) (now lengths) (now places) (now body) first)) (base + j)) ⌝ }
     ensures { λ g. ⌜ Walks plan parts write (copyRuns (lentJoin plan parts lengths places body first 0) count base count) counters room g ⌝ }
 {
     let mut j: usize = 0;
@@ -165,7 +164,7 @@ fn copy_block(
     ranks: &[u64; 513],
 ) -> u8
     requires { ⌜ (first < 2 ^ 32) × (count ≤ 512) × (base + count < 2 ^ 64) ⌝ }
-    requires { ⌜ ((j : ℕ) → j ≤ count → getD (now ranks) j 0 ≡ rank (keysOf (join (now plan) [] (now lengths) (now places) (now body) first 0)) (base + j)) ⌝ }
+    requires { ⌜ ((j : ℕ) → j ≤ count → getD (now ranks) j 0 ≡ rank (keysOf (alone (now plan) (now lengths) (now places) (now body) first)) (base + j)) ⌝ }
     ensures { λ g. ⌜ Walks plan parts write (copyRuns (lentJoin plan parts lengths places body first 0) count base count) counters room g ⌝ }
 {
     if crate::plain::copy_plain(
@@ -213,8 +212,8 @@ pub fn copy_entries(
     write: bool,
     first: usize,
 ) -> u8
-    requires { ⌜ (first < 2 ^ 32) × (keysIn (join (now plan) [] (now lengths) (now places) (now body) first 0) ≡ true) ⌝ }
-    requires { ⌜ Head (keysOf (join (now plan) [] (now lengths) (now places) (now body) first 0)) (lengthOf (join (now plan) [] (now lengths) (now places) (now body) first 0) 1) (now head) ⌝ }
+    requires { ⌜ (first < 2 ^ 32) × (keysIn (alone (now plan) (now lengths) (now places) (now body) first) ≡ true) ⌝ }
+    requires { ⌜ Head (keysOf (alone (now plan) (now lengths) (now places) (now body) first)) (lengthOf (alone (now plan) (now lengths) (now places) (now body) first) 1) (now head) ⌝ }
     ensures { λ g. let j = lentJoin plan parts lengths places body first 0 in ⌜ Walks plan parts write (copyBlocks j (lengthOf j 1) 0 (lengthOf j 1)) counters room g ⌝ }
 {
     let entries = lent_tables::length_of(lengths, first + 1);

@@ -8,16 +8,16 @@ pub mod used_entries;
 ghost use mathlib.Core.Path.{_≡_};
 ghost use mathlib.Core.Bool.{true};
 ghost use mathlib.Core.List.{[]};
-ghost use Prim.Native.Nat.{_<_, _≤_, _^_};
-ghost use lib.ListN.{length, replicate};
+ghost use Prim.Native.Nat.{_<_, _≤_};
+ghost use lib.ListN.{length};
 ghost use Rattle.clauses.specs.Slices.{was, left};
 ghost use Rattle.array_data.specs.lent_tables.Lent.{tables};
 ghost use Rattle.source_rules.specs.kinds.Rows.{tablesOf};
 ghost use Rattle.columns.specs.Grounds.{columnGround};
 ghost use Rattle.walk.specs.State.{lengthOf};
-ghost use Rattle.walk.specs.Log.{Did};
 ghost use Rattle.leaf_walk.specs.Join.{join};
 ghost use Rattle.leaf_walk.specs.Walks.{lentJoin};
+ghost use Rattle.with_capacities.specs.Lent.{Begins};
 ghost use Rattle.anew.specs.Anew.{orElse};
 ghost use Rattle.anew.specs.ResultPlan.{keepsFrom, Comes, planAnew};
 ghost use Rattle.with_capacities.specs.Answer.{Makes, lentTables};
@@ -148,7 +148,7 @@ fn make(
 ) -> u8
     requires { ⌜ (length (now plan) ≡ 872) × (length (now counters) ≡ 96) × (length (now draft) ≡ 872) ⌝ }
     requires { let j = join (now draft) [] (now lengths) (now places) (now body) first 0 in ⌜ (keysIn j ≡ true → Head (keysOf j) (lengthOf j 1) (now head)) ⌝ }
-    ensures { λ r. ⌜ (left plan ≡ was draft) × Did (was draft) (was parts) true (reclaimWalk (lentJoin draft parts lengths places body first 0) (replicate 96 0)) (was room) r (left counters) (left room) ⌝ }
+    ensures { λ r. ⌜ (left plan ≡ was draft) × Begins draft parts (reclaimWalk (lentJoin draft parts lengths places body first 0)) counters room r ⌝ }
 {
     let mut tally = [0u64; plan_words::COUNTERS];
     let g = crate::reclaim_walk::reclaim_walk(

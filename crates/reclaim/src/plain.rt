@@ -1,20 +1,15 @@
 // Entries that are numbers without validity: those in use are copied straight from the body, by the ranks of their block.
 ghost use mathlib.Core.Path.{_≡_};
 ghost use mathlib.Core.Bool.{true, false, cond};
-ghost use mathlib.Core.List.{[]};
 ghost use Prim.Native.Nat.{ℕ, _+_, _*_, _^_, _<_, _≤_};
 ghost use lib.ListN.{length, getD};
 ghost use lib.Dec.{eqb};
 ghost use Rattle.clauses.specs.Slices.{was, left};
-ghost use Rattle.number.specs.Number.{splice};
 ghost use Rattle.walk.specs.State.{bytesOf, addRows};
-ghost use Rattle.walk.specs.Log.{startOf};
-ghost use Rattle.leaf_walk.specs.Join.{join};
 ghost use Rattle.leaf_walk.specs.Walks.{lentJoin, Walks};
 ghost use Rattle.reclaim.specs.used_entries.Keys.{rank};
-ghost use Rattle.reclaim.specs.used_entries.Chosen.{chosen, risen};
 ghost use Rattle.reclaim.specs.reclaim_walk.Walk.{keysOf, copyRuns};
-ghost use Rattle.reclaim.specs.reclaim_walk.Plain.{Plain, entryPlace};
+ghost use Rattle.reclaim.specs.reclaim_walk.Plain.{alone, lentAlone, Plain, chosenOf, behind, Stand};
 use array_data::lent_tables;
 use nested_rows::lookups;
 use walk::plan_words;
@@ -30,7 +25,7 @@ fn is_plain(
     count: u64,
 ) -> bool
     requires { ⌜ (first < 2 ^ 32) × (base + count < 2 ^ 64) ⌝ }
-    ensures { λ r. ⌜ (r ≡ true → Plain (join (was plan) [] (was lengths) (was places) (was body) first 0) base count) ⌝ }
+    ensures { λ r. ⌜ (r ≡ true → Plain (lentAlone plan lengths places body first) base count) ⌝ }
 {
     if !schema::formats::is_fixed(plan_words::code_of(plan, 1)) {
         return false;
@@ -71,9 +66,9 @@ fn write_entries(
     have: u64,
     n: u64,
 ) -> bool
-    requires { ⌜ (first < 2 ^ 32) × (count ≤ 512) × Plain (join (now plan) [] (now lengths) (now places) (now body) first 0) base count ⌝ }
-    requires { ⌜ length (chosen (now body) (entryPlace (join (now plan) [] (now lengths) (now places) (now body) first 0) base) (bytesOf (now plan) 1) (risen (now ranks)) count) ≡ bytesOf (now plan) 1 * n ⌝ }
-    ensures { λ r. ⌜ (r ≡ true → (write ≡ true → startOf (was plan) (was parts) 1 1 + have * bytesOf (was plan) 1 + bytesOf (was plan) 1 * n ≤ length (was room)) × (left room ≡ cond write (splice (startOf (was plan) (was parts) 1 1 + have * bytesOf (was plan) 1) (chosen (was body) (entryPlace (join (was plan) [] (was lengths) (was places) (was body) first 0) base) (bytesOf (was plan) 1) (risen (was ranks)) count) (was room)) (was room))) ⌝ }
+    requires { ⌜ (first < 2 ^ 32) × (count ≤ 512) × Plain (alone (now plan) (now lengths) (now places) (now body) first) base count ⌝ }
+    requires { let j = alone (now plan) (now lengths) (now places) (now body) first in ⌜ length (chosenOf j base (now ranks) count) ≡ bytesOf (now plan) 1 * n ⌝ }
+    ensures { λ r. ⌜ (r ≡ true → Stand write room (behind (was plan) (was parts) have) (chosenOf (lentAlone plan lengths places body first) base (was ranks) count) (bytesOf (was plan) 1 * n)) ⌝ }
     ensures { λ r. ⌜ (r ≡ false → left room ≡ was room) ⌝ }
 {
     if !write {
@@ -134,7 +129,7 @@ pub fn copy_plain(
     ranks: &[u64; 513],
 ) -> bool
     requires { ⌜ (first < 2 ^ 32) × (count ≤ 512) × (base + count < 2 ^ 64) ⌝ }
-    requires { ⌜ ((j : ℕ) → j ≤ count → getD (now ranks) j 0 ≡ rank (keysOf (join (now plan) [] (now lengths) (now places) (now body) first 0)) (base + j)) ⌝ }
+    requires { ⌜ ((j : ℕ) → j ≤ count → getD (now ranks) j 0 ≡ rank (keysOf (alone (now plan) (now lengths) (now places) (now body) first)) (base + j)) ⌝ }
     ensures { λ r. ⌜ (r ≡ true → Walks plan parts write (copyRuns (lentJoin plan parts lengths places body first 0) count base count) counters room 0) ⌝ }
     ensures { λ r. ⌜ (r ≡ false → (left counters ≡ was counters) × (left room ≡ was room)) ⌝ }
 {

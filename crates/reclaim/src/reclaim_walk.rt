@@ -10,11 +10,13 @@ ghost use lib.Dec.{eqb};
 ghost use Rattle.clauses.specs.Slices.{was, left};
 ghost use Rattle.number.specs.Number.{splice};
 ghost use Rattle.walk.specs.State.{bytesOf, lengthOf};
-ghost use Rattle.walk.specs.Log.{Did, put, applyIf};
+ghost use Rattle.walk.specs.Log.{put, applyIf};
 ghost use Rattle.leaf_walk.specs.Join.{join};
 ghost use Rattle.leaf_walk.specs.Walks.{lentJoin, Walks};
+ghost use Rattle.with_capacities.specs.Lent.{Stays};
 ghost use Rattle.reclaim.specs.used_entries.Keys.{newKeys, Head};
 ghost use Rattle.reclaim.specs.reclaim_walk.Walk.{keysOf, keysIn, firstEntry, reclaimWalk};
+ghost use Rattle.reclaim.specs.reclaim_walk.Plain.{alone, lentAlone};
 use crate::entry_copies;
 use array_data::lent_tables;
 use nested_rows::lookups;
@@ -34,7 +36,7 @@ pub fn is_masked(places: &[u64], first: usize) -> bool
 // Whether keys and validity of node 0 lie in the body.
 fn keys_in(plan: &[u64], lengths: &[u64], places: &[u64], body: &[u8], first: usize) -> bool
     requires { ⌜ first < 2 ^ 32 ⌝ }
-    ensures { λ r. ⌜ r ≡ keysIn (join (was plan) [] (was lengths) (was places) (was body) first 0) ⌝ }
+    ensures { λ r. ⌜ r ≡ keysIn (lentAlone plan lengths places body first) ⌝ }
 {
     let off = lent_tables::offset_of(lengths, first);
     let n = lent_tables::length_of(lengths, first);
@@ -73,10 +75,10 @@ fn write_keys(
     body: &[u8],
     first: usize,
 )
-    requires { ⌜ (first < 2 ^ 32) × (keysIn (join (now plan) [] (now lengths) (now places) (now body) first 0) ≡ true) ⌝ }
-    requires { ⌜ Head (keysOf (join (now plan) [] (now lengths) (now places) (now body) first 0)) (lengthOf (join (now plan) [] (now lengths) (now places) (now body) first 0) 1) (now head) ⌝ }
-    requires { ⌜ to + bytesOf (now plan) 0 * lengthOf (join (now plan) [] (now lengths) (now places) (now body) first 0) 0 ≤ length (now room) ⌝ }
-    ensures { λ _. let j = join (was plan) [] (was lengths) (was places) (was body) first 0 in ⌜ left room ≡ splice to (newKeys (keysOf j) (lengthOf j 1)) (was room) ⌝ }
+    requires { ⌜ (first < 2 ^ 32) × (keysIn (alone (now plan) (now lengths) (now places) (now body) first) ≡ true) ⌝ }
+    requires { ⌜ Head (keysOf (alone (now plan) (now lengths) (now places) (now body) first)) (lengthOf (alone (now plan) (now lengths) (now places) (now body) first) 1) (now head) ⌝ }
+    requires { ⌜ to + bytesOf (now plan) 0 * lengthOf (alone (now plan) (now lengths) (now places) (now body) first) 0 ≤ length (now room) ⌝ }
+    ensures { λ _. let j = lentAlone plan lengths places body first in ⌜ left room ≡ splice to (newKeys (keysOf j) (lengthOf j 1)) (was room) ⌝ }
 {
     let w = lookups::width_at(plan, 0);
     let at = lent_tables::place(places, first, 3);
@@ -100,9 +102,9 @@ fn put_keys(
     write: bool,
     first: usize,
 )
-    requires { ⌜ (first < 2 ^ 32) × (keysIn (join (now plan) [] (now lengths) (now places) (now body) first 0) ≡ true) ⌝ }
-    requires { ⌜ Head (keysOf (join (now plan) [] (now lengths) (now places) (now body) first 0)) (lengthOf (join (now plan) [] (now lengths) (now places) (now body) first 0) 1) (now head) ⌝ }
-    ensures { λ _. let j = join (was plan) [] (was lengths) (was places) (was body) first 0 in ⌜ left room ≡ applyIf (was plan) (was parts) write (put 0 1 0 (newKeys (keysOf j) (lengthOf j 1)) ∷ []) (was room) ⌝ }
+    requires { ⌜ (first < 2 ^ 32) × (keysIn (alone (now plan) (now lengths) (now places) (now body) first) ≡ true) ⌝ }
+    requires { ⌜ Head (keysOf (alone (now plan) (now lengths) (now places) (now body) first)) (lengthOf (alone (now plan) (now lengths) (now places) (now body) first) 1) (now head) ⌝ }
+    ensures { λ _. let j = lentAlone plan lengths places body first in ⌜ left room ≡ applyIf (was plan) (was parts) write (put 0 1 0 (newKeys (keysOf j) (lengthOf j 1)) ∷ []) (was room) ⌝ }
 {
     let w = lookups::width_at(plan, 0);
     let n = lent_tables::length_of(lengths, first);
@@ -123,7 +125,7 @@ fn put_keys(
 
 // The first zero offset of byte strings.
 fn first_entry(plan: &[u64], parts: &[u64], room: &mut [u8], write: bool)
-    ensures { λ _. ⌜ ((lengths places body c : List ℕ) (first : ℕ) → Did (was plan) (was parts) write (firstEntry (join (was plan) (was parts) lengths places body first 0) c) (was room) 0 c (left room)) ⌝ }
+    ensures { λ _. ⌜ ((lengths places body c : List ℕ) (first : ℕ) → Stays plan parts write (firstEntry (join (was plan) (was parts) lengths places body first 0) c) room 0 c) ⌝ }
 {
     let code = plan_words::code_of(plan, 1);
     if !schema::formats::is_string(code) {
@@ -142,7 +144,7 @@ pub fn head_ranks(
     first: usize,
 ) -> [u64; 513]
     requires { ⌜ first < 2 ^ 32 ⌝ }
-    ensures { λ m. let j = join (was plan) [] (was lengths) (was places) (was body) first 0 in ⌜ (keysIn j ≡ true → Head (keysOf j) (lengthOf j 1) m) ⌝ }
+    ensures { λ m. let j = lentAlone plan lengths places body first in ⌜ (keysIn j ≡ true → Head (keysOf j) (lengthOf j 1) m) ⌝ }
 {
     if !keys_in(plan, lengths, places, body, first) {
         return [0u64; 513];
@@ -171,7 +173,7 @@ pub fn reclaim_walk(
     first: usize,
 ) -> u8
     requires { ⌜ first < 2 ^ 32 ⌝ }
-    requires { let j = join (now plan) [] (now lengths) (now places) (now body) first 0 in ⌜ (keysIn j ≡ true → Head (keysOf j) (lengthOf j 1) (now head)) ⌝ }
+    requires { let j = alone (now plan) (now lengths) (now places) (now body) first in ⌜ (keysIn j ≡ true → Head (keysOf j) (lengthOf j 1) (now head)) ⌝ }
     ensures { λ g. ⌜ Walks plan parts write (reclaimWalk (lentJoin plan parts lengths places body first 0)) counters room g ⌝ }
 {
     if !keys_in(plan, lengths, places, body, first) {

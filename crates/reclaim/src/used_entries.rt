@@ -2,15 +2,12 @@
 
 ghost use mathlib.Core.Path.{_≡_};
 ghost use mathlib.Core.Bool.{true, cond};
-ghost use mathlib.Core.List.{List};
 ghost use Prim.Native.Nat.{ℕ, _+_, _*_, _-_, _^_, _<_, _≤_, min};
 ghost use lib.ListN.{length, getD};
 ghost use lib.Dec.{ltb};
 ghost use Rattle.clauses.specs.Slices.{was, left};
 ghost use Rattle.number.specs.Number.{encode, entry, splice};
-ghost use Rattle.columnar.specs.Row.{seg};
-ghost use Rattle.columnar.specs.Entries.{encodes};
-ghost use Rattle.reclaim.specs.used_entries.Keys.{keys, KeyWidth, Within, slotValid, used, rank, newKey, newKeys, slotIn, Head};
+ghost use Rattle.reclaim.specs.used_entries.Keys.{keys, KeyWidth, Within, slotValid, used, rank, newKeys, Renumbers, slotIn, Head};
 
 // How many entries a block has at most.
 const BLOCK: u64 = 512;
@@ -167,7 +164,7 @@ fn write_block(
 )
     requires { ⌜ Within (keys (now body) w at masked mask off n) × (to + w * n ≤ length (now room)) × (count ≤ 512) ⌝ }
     requires { ⌜ ((j : ℕ) → j < count → getD (now ranks) j 0 ≡ rank (keys (now body) w at masked mask off n) (base + j)) ⌝ }
-    ensures { λ _. let k = keys (was body) w at masked mask off n in ⌜ ((old : List ℕ) → to + w * n ≤ length old → was room ≡ splice to (encodes w (seg (newKey k base) 0 n)) old → left room ≡ splice to (encodes w (seg (newKey k (base + count)) 0 n)) old) ⌝ }
+    ensures { λ _. ⌜ Renumbers (keys (was body) w at masked mask off n) room to base (base + count) ⌝ }
 {
     let mut r: u64 = 0;
     while r < n {
@@ -194,7 +191,7 @@ fn write_by(
 )
     requires { ⌜ Within (keys (now body) w at masked mask off n) × (to + w * n ≤ length (now room)) × (count ≤ 512) ⌝ }
     requires { ⌜ ((j : ℕ) → j < count → getD (now ranks) j 0 ≡ rank (keys (now body) w at masked mask off n) (base + j)) ⌝ }
-    ensures { λ _. let k = keys (was body) w at masked mask off n in ⌜ ((old : List ℕ) → to + w * n ≤ length old → was room ≡ splice to (encodes w (seg (newKey k base) 0 n)) old → left room ≡ splice to (encodes w (seg (newKey k (base + count)) 0 n)) old) ⌝ }
+    ensures { λ _. ⌜ Renumbers (keys (was body) w at masked mask off n) room to base (base + count) ⌝ }
 {
     match w {
         1 => write_block(

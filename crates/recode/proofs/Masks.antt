@@ -58,11 +58,6 @@ pub masked-none : (w : ℕ) (room : List ℕ) (at : ℕ) (f : ℕ → ℕ) → s
 unfolding masked
 masked-none w room at f = pieces-none _ at room
 
-pub masked-same : (w : ℕ) (room : List ℕ) (at : ℕ) (f g : ℕ → ℕ) (n : ℕ) → ((k : ℕ) → k < n → f k ≡ g k) → masked w room at f n ≡ masked w room at g n
-unfolding masked
-masked-same w room at f g n h =
-    numbers-same w (λ k. entry w room at k * f k) (λ k. entry w room at k * g k) n (λ k l. ap (λ (x : ℕ). entry w room at k * x) (h k l))
-
 -- m entries behind the first a
 pub masked-join : (w : ℕ) (room : List ℕ) (at : ℕ) (f g : ℕ → ℕ) (a m : ℕ) → at + w * (a + m) ≤ length room → ((k : ℕ) → k < m → g k ≡ f (a + k))
     → splice (at + w * a) (masked w (splice at (masked w room at f a) room) (at + w * a) g m) (splice at (masked w room at f a) room)

@@ -8,4 +8,3 @@ pub mod Self
 pub mod OneTree
 pub mod Kids
 pub mod Opened
-pub mod Words

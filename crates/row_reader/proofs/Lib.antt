@@ -1,2 +1,3 @@
 -- Laws of `row_reader`.
 pub mod Laws
+pub mod meaning

@@ -55,7 +55,7 @@ pub fn read_row(
     row: u64,
     ids: &mut [u8; 8],
 ) -> RowAnswer
-    ensures { λ r. let t = tablesOf (was lengths) (was places) (was buffers) (was body) in ⌜ (r .read ≡ readRow (was formats) (was schema) t first n row .read) × (r .ids ≡ length (readRow (was formats) (was schema) t first n row .ids)) ⌝ }
+    ensures { λ r. let w = readRow (was formats) (was schema) (tablesOf (was lengths) (was places) (was buffers) (was body)) first n row in ⌜ (r .read ≡ w .read) × (r .ids ≡ length (w .ids)) ⌝ }
     ensures { λ r. ⌜ left ids ≡ splice 0 (readRow (was formats) (was schema) (tablesOf (was lengths) (was places) (was buffers) (was body)) first n row .ids) (was ids) ⌝ }
 {
     let mut tree = [0u64; 256];

@@ -1,6 +1,5 @@
 // One row of a lent column, read from the top of the tree downward, at most eight levels.
 pub mod column_reader;
-pub mod meaning;
 pub mod row_pair;
 pub mod runs;
 mod unions;
@@ -221,7 +220,7 @@ fn read_at(
     depth: usize,
 ) -> Reading
     requires { ⌜ (count + depth ≤ 8) × (length ids ≡ 8) ⌝ }
-    ensures { λ r. let c = column (was lengths) (was places) (was buffers) (was body) first in let w = walk (was tree) c depth i row .ids in ⌜ (r .read ≡ walk (was tree) c depth i row .read) × (r .count ≡ count + length w) × (r .ids ≡ splice count w ids) ⌝ }
+    ensures { λ r. let w = walk (was tree) (column (was lengths) (was places) (was buffers) (was body) first) depth i row in ⌜ (r .read ≡ w .read) × (r .count ≡ count + length (w .ids)) × (r .ids ≡ splice count (w .ids) ids) ⌝ }
 {
     if depth == 0 {
         return Reading {

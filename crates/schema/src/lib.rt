@@ -217,7 +217,7 @@ fn is_leaf(code: u8, schema: &[u32], first: usize, i: usize) -> bool
 // Keys with a dictionary.
 fn is_keys(code: u8, formats: &[u8], schema: &[u32], first: usize, i: usize) -> bool
     requires { ⌜ (first < 4294967296) × (i < 4294967295) ⌝ }
-    ensures { λ r. ⌜ r ≡ (isInteger code && eqb (children (now (schema .entry)) first i) 0 && eqb (dictionary (now (schema .entry)) first i) 1 && valuesShape (now (formats .entry)) (now (schema .entry)) first (suc i)) ⌝ }
+    ensures { λ r. let s = now (schema .entry) in ⌜ r ≡ (isInteger code && eqb (children s first i) 0 && eqb (dictionary s first i) 1 && valuesShape (now (formats .entry)) s first (suc i)) ⌝ }
 {
     let kind = crate::formats::is_integer(code);
     let childless = children_of(schema, first, i) == 0;
@@ -269,7 +269,7 @@ fn is_union_node(code: u8, formats: &[u8], schema: &[u32], first: usize, i: usiz
 // Run ends and values.
 fn is_runs(code: u8, formats: &[u8], schema: &[u32], first: usize, i: usize) -> bool
     requires { ⌜ (first < 4294967296) × (i < 4294967295) ⌝ }
-    ensures { λ r. ⌜ r ≡ (isRunEnd code && eqb (children (now (schema .entry)) first i) 2 && eqb (dictionary (now (schema .entry)) first i) 0 && endsShape (now (formats .entry)) (now (schema .entry)) first (suc i)) ⌝ }
+    ensures { λ r. let s = now (schema .entry) in ⌜ r ≡ (isRunEnd code && eqb (children s first i) 2 && eqb (dictionary s first i) 0 && endsShape (now (formats .entry)) s first (suc i)) ⌝ }
 {
     let kind = crate::formats::is_run_end(code);
     let two_children = children_of(schema, first, i) == 2;

@@ -8,9 +8,9 @@ ghost use mathlib.Core.Path.{_≡_};
 ghost use mathlib.Core.List.{[]};
 ghost use Prim.Native.Nat.{suc, _+_, _≤_, _<_, _^_};
 ghost use Rattle.clauses.specs.Slices.{was};
-ghost use Rattle.array_data.specs.Tables.{part, lengthOf, offsetOf, place, firstBuffer, secondBuffer};
-ghost use Rattle.array_data.specs.entries.Entries.{column, spotIn, entryIn};
-ghost use Rattle.slot_reader.specs.Slots.{codeWord, codeNumber, numberRead, stretchIn, stringRead, dataPlace, viewAt, listViewRead, rowsIn, listRead, storedNumber, storedAt, namedAt, keyed, fixedRead, slotRead};
+ghost use Rattle.array_data.specs.Tables.{part, lengthOf, place, firstBuffer, secondBuffer};
+ghost use Rattle.array_data.specs.entries.Entries.{column, spotIn};
+ghost use Rattle.slot_reader.specs.Slots.{codeWord, codeNumber, numberRead, stretchIn, stringRead, dataPlace, viewAt, listViewRead, rowsIn, listRead, storedNumber, storedAt, dictionaryRead, fixedRead, slotRead};
 use array_data::entries;
 use array_data::entries::Entry;
 use array_data::entries::Spot;
@@ -107,7 +107,7 @@ fn read_view(
     slot: u64,
 ) -> RowRead
     requires { ⌜ i < 2 ^ 32 ⌝ }
-    ensures { λ r. let c = column [] (was places) [] [] first in ⌜ r ≡ viewAt (was body) (was buffers) (place c i 7) (place c i 8) (spotIn (place c i 3) 16 (firstBuffer (column [] (was places) [] (was body) first) i) slot) ⌝ }
+    ensures { λ r. let c = column [] (was places) [] (was body) first in ⌜ r ≡ viewAt (was body) (was buffers) (place c i 7) (place c i 8) (spotIn (place c i 3) 16 (firstBuffer c i) slot) ⌝ }
 {
     let start = entries::place_at(places, first, i, 3);
     let size = entries::place_at(places, first, i, 4);
@@ -256,7 +256,7 @@ fn read_dictionary(
     slot: u64,
 ) -> RowRead
     requires { ⌜ i + 1 < 2 ^ 32 ⌝ }
-    ensures { λ r. let c = column [] (was places) [] (was body) first in ⌜ r ≡ keyed (offsetOf (column (was lengths) [] [] [] first) (suc i)) (namedAt (was tree) c (suc i)) (entryIn w (firstBuffer c i) slot) ⌝ }
+    ensures { λ r. ⌜ r ≡ dictionaryRead (was tree) (column (was lengths) (was places) [] (was body) first) i w slot ⌝ }
 {
     let start = entries::place_at(places, first, i, 3);
     let size = entries::place_at(places, first, i, 4);

@@ -2,19 +2,17 @@
 // and its rows by its kind; every function is right whatever the tables hold.
 ghost use mathlib.Core.Path.{_≡_};
 ghost use mathlib.Core.Bool.{true, false};
-ghost use mathlib.Core.List.{[], List·Memᴰ};
+ghost use mathlib.Core.List.{[]};
 ghost use mathlib.Core.Option.{some};
 ghost use Prim.Native.Nat.{ℕ, _+_, _*_, _≤_, _<_, _^_, min};
-ghost use lib.ListN.{length, getD};
+ghost use lib.ListN.{length};
 ghost use Rattle.clauses.specs.Slices.{was};
 ghost use Rattle.columnar.specs.Types.{Number, width, limit};
 ghost use Rattle.schema.specs.formats.Types.{numberOf};
 ghost use Rattle.row_rules.specs.slots.Slots.{keysBelow, validKeysBelow};
-ghost use Rattle.array_data.specs.Tables.{lengthOf};
 ghost use Rattle.array_data.specs.Rules.{oneIn, twoIn, buffersIn, viewRule, dictionaryRule, sparseRule, denseRule};
-ghost use Rattle.array_data.specs.Typed.{fieldOf};
 ghost use Rattle.array_data.specs.lent_tables.Lent.{tables, Counted, maskOf};
-ghost use Rattle.source_rules.specs.kinds.Rows.{tablesOf, Ready, viewRows, keyRows, reach, sparseRows, denseRows};
+ghost use Rattle.source_rules.specs.kinds.Rows.{tablesOf, Ready, Children, viewRows, keyRows, reach, sparseRows, denseRows};
 use array_data::lent_tables;
 use row_rules::slots;
 
@@ -239,7 +237,7 @@ pub fn sparse_rule(
     lens: &[u64],
 ) -> bool
     requires { ⌜ Counted (tables (now lengths) (now places) (now body)) k ⌝ }
-    ensures { λ r. let t = tables (was lengths) (was places) (was body) in ⌜ ((node : ℕ → ℕ) → ((c : ℕ) → List·Memᴰ c (was ids) → lengthOf t (node c) ≡ getD (was lens) (fieldOf (was ids) c) 0) → r ≡ sparseRule t k (was ids) node) ⌝ }
+    ensures { λ r. let t = tables (was lengths) (was places) (was body) in ⌜ ((node : ℕ → ℕ) → Children t (was ids) (was lens) node → r ≡ sparseRule t k (was ids) node) ⌝ }
 {
     if !lent_tables::one_in(lengths, places, body, k) {
         return false;
@@ -286,7 +284,7 @@ pub fn dense_rule(
     lens: &[u64],
 ) -> bool
     requires { ⌜ Counted (tables (now lengths) (now places) (now body)) k ⌝ }
-    ensures { λ r. let t = tables (was lengths) (was places) (was body) in ⌜ ((node : ℕ → ℕ) → ((c : ℕ) → List·Memᴰ c (was ids) → lengthOf t (node c) ≡ getD (was lens) (fieldOf (was ids) c) 0) → r ≡ denseRule t k (was ids) node) ⌝ }
+    ensures { λ r. let t = tables (was lengths) (was places) (was body) in ⌜ ((node : ℕ → ℕ) → Children t (was ids) (was lens) node → r ≡ denseRule t k (was ids) node) ⌝ }
 {
     if !lent_tables::two_in(lengths, places, body, k) {
         return false;

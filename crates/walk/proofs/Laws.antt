@@ -1,15 +1,12 @@
 -- How `Did` goes along the steps of a walk: each step has a law for each way that the code goes. Assumes nothing.
 use mathlib.Core.Path.{_≡_, refl, sym, ap, subst, _∙_}
-use mathlib.Core.Bool.{Bool, true, false, cond, false≢true}
+use mathlib.Core.Bool.{Bool, true, false}
 use mathlib.Core.List.{List, [], _∷_, _++_}
-use Prim.Native.Nat.{ℕ, zero, suc, _+_, _-_, _*_, _<_, _≤_}
-use native.Mathlib.Numerals.{sub-one, add-one}
-use native.Mathlib.Omega.{arith}
-use lib.ListN.{length}
-use lib.Dec.{ltb, leb, eqb}
+use Prim.Native.Nat.{ℕ, suc, _+_, _<_, _≤_}
+use native.Mathlib.Numerals.{add-one}
+use lib.Dec.{eqb}
 use borrow.Author.Tests.{lt-ltb, le-ltb, eq-eqb, ne-eqb}
-use Rattle.walk.specs.State.{Join}
-use Rattle.walk.specs.Log.{Log, Entry, put, mask, enter, Out, Did, apply, applyIf, fail, done, wrote, need, found, next, each}
+use Rattle.walk.specs.Log.{Log, Entry, Out, Did, apply, applyIf, fail, done, wrote, need, found, next, each}
 
 module _ (plan parts : List ℕ) where
   pub apply-append : (l1 l2 : Log) (room : List ℕ) → apply plan parts (l1 ++ l2) room ≡ apply plan parts l2 (apply plan parts l1 room)
@@ -34,14 +31,6 @@ pub next-need : (b : Bool) (g : ℕ) (c : List ℕ) (o : Out) (k : List ℕ → 
 unfolding need next fail
 next-need true g c o k h = refl
 next-need false g c o k h = rw (ne-eqb g 0 h)
-
-pub next-found : (m v g : ℕ) (c : List ℕ) (f : ℕ → Out) (k : List ℕ → Out) → (g ≡ 0 → ⊥) → found m v g c (λ h. next (f h) k) ≡ next (found m v g c f) k
-unfolding found next fail
-next-found m v g c f k h = go (ltb v m)
-  where
-    go : (t : Bool) → cond t (next (f v) k) (fail g c) ≡ next (cond t (f v) (fail g c)) k
-    go true = refl
-    go false = rw (ne-eqb g 0 h)
 
 pub next-wrote : (e : Entry) (c : List ℕ) (f k : List ℕ → Out) → next (wrote e c) (λ c2. next (f c2) k) ≡ next (next (wrote e c) f) k
 unfolding wrote next

@@ -7,7 +7,7 @@ use lib.ListN.{length, take, drop, getD}
 use lib.Dec.{leb, ltb, eqb}
 use Rattle.number.specs.Number.{entry, encode}
 use Rattle.columnar.specs.Types.{half}
-use Rattle.schema.specs.formats.Code.{isFixed, isString, isView, isListView, isList}
+use Rattle.schema.specs.formats.Code.{isFixed, isString, isView, isListView, isList, isSparse, isDense}
 use Rattle.utils.specs.Offsets.{movedOffsets}
 use Rattle.run_ends.specs.Lookup.{foundRun, runsOf}
 use Rattle.run_ends.specs.Clip.{clipped}
@@ -139,8 +139,8 @@ module _ (x : Join) (child : Walk) where
       (cond (isView code) (copyViews x i slot n c)
       (cond (isListView code) (copyListView (bytesOf (x .plan) i) i slot n c)
       (cond (isList code) (copyList (bytesOf (x .plan) i) i slot n c)
-      (cond (eqb code 21) (copySparse i slot n c)
-      (cond (eqb code 22) (copyDense i slot n c)
+      (cond (isSparse code) (copySparse i slot n c)
+      (cond (isDense code) (copyDense i slot n c)
       (cond (eqb code 23) (copyRuns i slot n c)
       (fail 12 c))))))))
 

@@ -7,7 +7,7 @@ use lib.ListN.{length, replicate}
 use lib.Dec.{leb, ltb, eqb}
 use Rattle.number.specs.Number.{encode}
 use Rattle.columnar.specs.Types.{half}
-use Rattle.schema.specs.formats.Code.{isFixed, isString, isView, isListView, isList}
+use Rattle.schema.specs.formats.Code.{isFixed, isString, isView, isListView, isList, isSparse, isDense}
 use Rattle.utils.specs.Offsets.{countedUp, repeated}
 use Rattle.walk.specs.State.{Join, codeOf, endOf, idOf, nullableOf, bytesOf, rows, gap, addRows, beginGap}
 use Rattle.walk.specs.Log.{Out, put, amend, fail, done, wrote, need, found, next}
@@ -79,8 +79,8 @@ module _ (x : Join) (child : NullWalk) where
       (cond (isView code) (nullNumbers x i 1 16 n c)
       (cond (isListView code) (nullListView (bytesOf (x .plan) i) i n c)
       (cond (isList code) (nullList (bytesOf (x .plan) i) i n c)
-      (cond (eqb code 21) (nullSparse i n c)
-      (cond (eqb code 22) (nullDense i n c)
+      (cond (isSparse code) (nullSparse i n c)
+      (cond (isDense code) (nullDense i n c)
       (cond (eqb code 23) (nullRuns i n c)
       (fail 12 c))))))))
 

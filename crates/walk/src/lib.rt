@@ -1,7 +1,2 @@
 // The walk of an order over the nodes of a column, as definitions, and the words of the plan and the counters that it reads and raises.
 pub mod plan_words;
-
-// How many counters a node has: rows, nulls and bytes.
-pub fn counters_per_node() -> usize {
-    3
-}

@@ -1,13 +1,14 @@
 -- Steps of the walk by their buffers. Assumes nothing.
+use mathlib.Core.Bool.{cond}
 use mathlib.Core.List.{List}
 use Prim.Native.Nat.{ℕ, suc, _+_, _*_, _<_, _≤_}
 use lib.ListN.{length}
 use Rattle.columnar.specs.Row.{seg}
 use Rattle.columnar.specs.Types.{half}
-use Rattle.columnar.specs.Array.{item}
+use Rattle.columnar.specs.Array.{item, ok}
 use Rattle.columnar.specs.Entries.{encodes}
 use Rattle.columnar.specs.RunEnd.{RunEnd, endOf, startOf}
-use Rattle.array_data.specs.Tables.{Tables, place, lengthOf, offsetOf, firstBuffer, arrayWith}
+use Rattle.array_data.specs.Tables.{Tables, part, validOf, place, lengthOf, offsetOf, firstBuffer, arrayWith}
 use Rattle.walk.specs.State.{addRows}
 use Rattle.walk.specs.Log.{Out, put, done, wrote, need, next}
 use Rattle.anew.specs.widths.Converted.{firstOf, manyOf, endsOf}
@@ -20,6 +21,19 @@ pairsWalk offsets sizes w w′ i s n c =
     need (allUnder (half w′) (seg (item w offsets) s n)) 6 c
     (need (allUnder (half w′) (seg (item w sizes) s n)) 6 c
     (next (wrote (put i 1 0 (encodes w′ (seg (item w offsets) s n))) c) (λ c1. wrote (put i 2 0 (encodes w′ (seg (item w sizes) s n))) c1)))
+
+-- .. where both lie in a body behind `at` and `too` and hold those slots, whatever their sizes are
+abbrev pub AnyPairs : List ℕ → (at too w s n : ℕ) → (List ℕ → List ℕ → List ℕ → Type 0) → Type 0
+AnyPairs body at too w s n P =
+    (size room : ℕ) (c : List ℕ) → at + size ≤ length body → too + room ≤ length body → (s + n) * w ≤ size → (s + n) * w ≤ room → P (part body at size) (part body too room) c
+
+-- entries of w bytes, slots s .. s + n - 1, are at most m
+abbrev pub AtMost : ℕ → List ℕ → (s n m : ℕ) → Type 0
+AtMost w p s n m = (j : ℕ) → j < n → item w p (s + j) ≤ m
+
+-- the keys of w bytes of node i, 0 under nulls
+abbrev pub keysIn : Tables → (w i s n : ℕ) → List ℕ
+keysIn x w i s n = seg (λ j. cond (ok (validOf x i) j) (item w (firstBuffer x i) j) 0) s n
 
 -- the buffer of node i whose place is number j lies in the body
 abbrev pub Inside : Tables → ℕ → ℕ → Type 0

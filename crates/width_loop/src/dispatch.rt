@@ -7,7 +7,7 @@ ghost use Rattle.clauses.specs.Slices.{was, left};
 ghost use Rattle.schema.specs.formats.Code.{isFixed, isString, isView};
 ghost use Rattle.schema.specs.Tree.{codeOf};
 ghost use Rattle.leaf_walk.specs.Walks.{Walks};
-ghost use Rattle.width_loop.specs.Here.{Here, ownHere, settledHere};
+ghost use Rattle.width_loop.specs.Here.{Here, ownLent, settledLent};
 use crate::leaves;
 use crate::nodes;
 use array_data::entries;
@@ -35,8 +35,8 @@ fn nested_node(
 ) -> u8
     requires { ⌜ Here (now formats) (now schema) (now lengths) (now places) (now body) first count target i s n ⌝ }
     requires { let c = codeOf (now formats) (now schema) first i in ⌜ (isFixed c ≡ false) × (isString c ≡ false) × (isView c ≡ false) ⌝ }
-    ensures { λ g. ⌜ ((buffers : List ℕ) → Walks plan parts write (ownHere (was formats) (was schema) (was lengths) (was places) buffers (was body) (was plan) first count target i s n) counters room g) ⌝ }
-    ensures { λ g. ⌜ ((buffers : List ℕ) → g ≡ 0 → left ranges ≡ settledHere (was formats) (was schema) (was lengths) (was places) buffers (was body) (was plan) first count target i s n (was ranges)) ⌝ }
+    ensures { λ g. ⌜ ((buffers : List ℕ) → Walks plan parts write (ownLent formats schema lengths places body plan buffers first count target i s n) counters room g) ⌝ }
+    ensures { λ g. ⌜ ((buffers : List ℕ) → g ≡ 0 → left ranges ≡ settledLent formats schema lengths places body plan buffers first count target i s n (was ranges)) ⌝ }
 {
     let code = schema::code_of(formats, schema, first as usize, i);
     if schema::formats::is_run_end(code) {
@@ -138,8 +138,8 @@ pub fn walk_data(
     n: u64,
 ) -> u8
     requires { ⌜ Here (now formats) (now schema) (now lengths) (now places) (now body) first count target i s n ⌝ }
-    ensures { λ g. ⌜ ((buffers : List ℕ) → Walks plan parts write (ownHere (was formats) (was schema) (was lengths) (was places) buffers (was body) (was plan) first count target i s n) counters room g) ⌝ }
-    ensures { λ g. ⌜ ((buffers : List ℕ) → g ≡ 0 → left ranges ≡ settledHere (was formats) (was schema) (was lengths) (was places) buffers (was body) (was plan) first count target i s n (was ranges)) ⌝ }
+    ensures { λ g. ⌜ ((buffers : List ℕ) → Walks plan parts write (ownLent formats schema lengths places body plan buffers first count target i s n) counters room g) ⌝ }
+    ensures { λ g. ⌜ ((buffers : List ℕ) → g ≡ 0 → left ranges ≡ settledLent formats schema lengths places body plan buffers first count target i s n (was ranges)) ⌝ }
 {
     let code = schema::code_of(formats, schema, first as usize, i);
     if schema::formats::is_fixed(code) {

@@ -1,29 +1,28 @@
 // What a node writes beside its bits, and the rows of the nodes below it that it settles: one function a kind. The answer is 0 or the ground of
 // refusal.
 ghost use mathlib.Core.Path.{_≡_};
-ghost use mathlib.Core.Bool.{Bool, true};
-ghost use mathlib.Core.Option.{some};
-ghost use mathlib.Core.List.{List, [], _∷_};
+ghost use mathlib.Core.Bool.{true};
+ghost use mathlib.Core.List.{[], _∷_};
 ghost use Prim.Native.Nat.{ℕ, suc, _+_, _*_, _<_, _≤_, _^_};
 ghost use lib.ListN.{length, take, drop};
 ghost use Rattle.clauses.specs.Slices.{was, left};
-ghost use Rattle.columnar.specs.Types.{Number, width, half};
-ghost use Rattle.columnar.specs.Array.{item, ok};
+ghost use Rattle.columnar.specs.Types.{Number, half};
+ghost use Rattle.columnar.specs.Array.{item};
 ghost use Rattle.columnar.specs.Plain.{OffsetsRule};
 ghost use Rattle.columnar.specs.Test.{maskTest};
 ghost use Rattle.schema.specs.formats.Code.{isInteger};
-ghost use Rattle.schema.specs.formats.Types.{numberOf};
 ghost use Rattle.schema.specs.Tree.{childAt};
 ghost use Rattle.array_data.specs.Tables.{place, lengthOf, validOf, validIn, firstBuffer, secondBuffer};
-ghost use Rattle.array_data.specs.NodeKinds.{NodeKind, stringNode, listViewNode, listNode, sparseNode, denseNode, dictionaryNode};
+ghost use Rattle.array_data.specs.NodeKinds.{stringNode, listViewNode, listNode, sparseNode, denseNode, dictionaryNode};
 ghost use Rattle.array_data.specs.Typed.{Tree};
 ghost use Rattle.array_data.specs.entries.Entries.{column};
-ghost use Rattle.array_data.specs.type_tree.Lent.{treeOf};
 ghost use Rattle.walk.specs.State.{setBytes};
-ghost use Rattle.walk.specs.Log.{Did, put, applyIf};
+ghost use Rattle.walk.specs.Log.{put, applyIf};
 ghost use Rattle.leaf_walk.specs.Walks.{Walks};
-ghost use Rattle.width_walks.specs.Nodes.{ownAs, settleAs};
-ghost use Rattle.width_loop.specs.Steps.{Inside};
+ghost use Rattle.with_capacities.specs.Lent.{Stays, Writes};
+ghost use Rattle.width_walks.specs.Nodes.{settleAs};
+ghost use Rattle.width_loop.specs.Steps.{Inside, AtMost};
+ghost use Rattle.width_loop.specs.Here.{AnyTree, AnyUnion, AnyKeys, SettlesFields};
 use crate::leaves;
 use crate::ranges;
 use array_data::entries;
@@ -72,7 +71,7 @@ pub fn walk_string(
     requires { ⌜ (i < 32) × (s + n < 2 ^ 63) × Inside (column [] (now places) [] (now body) first) i 3 × Inside (column [] (now places) [] (now body) first) i 5 ⌝ }
     requires { ⌜ ((w ≡ 4 → ⊥) → w ≡ 8) × ((w2 ≡ 4 → ⊥) → w2 ≡ 8) ⌝ }
     requires { ⌜ OffsetsRule w (firstBuffer (column [] (now places) [] (now body) first) i) (length (secondBuffer (column [] (now places) [] (now body) first) i)) s n ⌝ }
-    ensures { λ g. ⌜ ((t t2 : Tree) (okay : ℕ → Bool) → Walks plan parts write (ownAs t t2 (column [] (was places) [] (was body) first) (was plan) (stringNode w) (stringNode w2) i okay s n) counters room g) ⌝ }
+    ensures { λ g. ⌜ AnyTree (column [] (was places) [] (was body) first) (was plan) i s n (stringNode w) (stringNode w2) (λ own. Walks plan parts write own counters room g) ⌝ }
 {
     let at = entries::place_at(places, first, i, 3);
     let size = entries::place_at(places, first, i, 4);
@@ -115,11 +114,11 @@ pub fn walk_list_view(
     s: u64,
     n: u64,
 ) -> u8
-    requires { let c = column [] (now places) [] (now body) first in let c2 = column [] (now places) [] [] first in ⌜ (i + 1 < 32) × Inside c i 3 × Inside c i 5 × ((s + n) * w ≤ place c2 i 4) × ((s + n) * w ≤ place c2 i 6) ⌝ }
+    requires { let c = column [] (now places) [] (now body) first in ⌜ (i + 1 < 32) × Inside c i 3 × Inside c i 5 × ((s + n) * w ≤ place c i 4) × ((s + n) * w ≤ place c i 6) ⌝ }
     requires { let c = column [] (now places) [] (now body) first in ⌜ ((j : ℕ) → j < n → item w (firstBuffer c i) (s + j) < half w) × ((j : ℕ) → j < n → item w (secondBuffer c i) (s + j) < half w) ⌝ }
-    requires { let c = column [] (now places) [] (now body) first in let c2 = column (now lengths) [] [] [] first in ⌜ ((j : ℕ) → j < n → item w (firstBuffer c i) (s + j) ≤ lengthOf c2 (suc i)) × ((j : ℕ) → j < n → item w (secondBuffer c i) (s + j) ≤ lengthOf c2 (suc i)) ⌝ }
+    requires { let c = column (now lengths) (now places) [] (now body) first in let m = lengthOf c (suc i) in ⌜ AtMost w (firstBuffer c i) s n m × AtMost w (secondBuffer c i) s n m ⌝ }
     requires { ⌜ ((w ≡ 4 → ⊥) → w ≡ 8) × ((w2 ≡ 4 → ⊥) → w2 ≡ 8) ⌝ }
-    ensures { λ g. ⌜ ((t t2 : Tree) (okay : ℕ → Bool) (c : List ℕ) → Did (was plan) (was parts) write (ownAs t t2 (column [] (was places) [] (was body) first) (was plan) (listViewNode w) (listViewNode w2) i okay s n c) (was room) g c (left room)) ⌝ }
+    ensures { λ g. ⌜ AnyTree (column [] (was places) [] (was body) first) (was plan) i s n (listViewNode w) (listViewNode w2) (λ own. Writes plan parts write own room g) ⌝ }
     ensures { λ g. ⌜ ((t t2 : Tree) → g ≡ 0 → left ranges ≡ settleAs t t2 (column (was lengths) (was places) [] (was body) first) (was plan) (listViewNode w) i s n (was ranges)) ⌝ }
 {
     let at = entries::place_at(places, first, i, 3);
@@ -166,7 +165,7 @@ pub fn walk_list(
     requires { ⌜ (i + 1 < 32) × (s + n < 2 ^ 63) × Inside (column [] (now places) [] (now body) first) i 3 ⌝ }
     requires { ⌜ ((w ≡ 4 → ⊥) → w ≡ 8) × ((w2 ≡ 4 → ⊥) → w2 ≡ 8) ⌝ }
     requires { ⌜ ((most : ℕ) × OffsetsRule w (firstBuffer (column [] (now places) [] (now body) first) i) most s n) ⌝ }
-    ensures { λ g. ⌜ ((t t2 : Tree) (okay : ℕ → Bool) (c : List ℕ) → Did (was plan) (was parts) write (ownAs t t2 (column [] (was places) [] (was body) first) (was plan) (listNode w) (listNode w2) i okay s n c) (was room) g c (left room)) ⌝ }
+    ensures { λ g. ⌜ AnyTree (column [] (was places) [] (was body) first) (was plan) i s n (listNode w) (listNode w2) (λ own. Writes plan parts write own room g) ⌝ }
     ensures { λ g. ⌜ ((t t2 : Tree) → g ≡ 0 → left ranges ≡ settleAs t t2 (column [] (was places) [] (was body) first) (was plan) (listNode w) i s n (was ranges)) ⌝ }
 {
     let at = entries::place_at(places, first, i, 3);
@@ -201,8 +200,8 @@ pub fn walk_sparse(
 )
     requires { ⌜ (count ≤ 32) × (i < count) × Inside (column [] (now places) [] (now body) first) i 3 × ((s + n) * 1 ≤ place (column [] (now places) [] [] first) i 4) ⌝ }
     requires { ⌜ ((j : ℕ) → j < m → childAt (now schema) first count i j < 32) ⌝ }
-    ensures { λ _. ⌜ ((t t2 : Tree) (k2 : NodeKind) (ids : List ℕ) (okay : ℕ → Bool) (c : List ℕ) → Did (was plan) (was parts) write (ownAs t t2 (column [] (was places) [] (was body) first) (was plan) (sparseNode ids) k2 i okay s n c) (was room) 0 c (left room)) ⌝ }
-    ensures { λ _. ⌜ ((formats buffers ids : List ℕ) (t2 : Tree) → length ids ≡ m → left ranges ≡ settleAs (treeOf formats (was schema) first count) t2 (column (was lengths) (was places) buffers (was body) first) (was plan) (sparseNode ids) i s n (was ranges)) ⌝ }
+    ensures { λ _. ⌜ AnyUnion (column [] (was places) [] (was body) first) (was plan) i s n sparseNode (λ own. Writes plan parts write own room 0) ⌝ }
+    ensures { λ _. ⌜ SettlesFields schema lengths places body plan first count sparseNode m i s n ranges ⌝ }
 {
     let at = entries::place_at(places, first, i, 3);
     leaves::put_slots(plan, parts, body, room, write, i, 1, at, 1, s, n);
@@ -227,10 +226,10 @@ pub fn walk_dense(
     s: u64,
     n: u64,
 )
-    requires { let c = column [] (now places) [] (now body) first in let c2 = column [] (now places) [] [] first in ⌜ (count ≤ 32) × (i < count) × Inside c i 3 × Inside c i 5 × ((s + n) * 1 ≤ place c2 i 4) × ((s + n) * 4 ≤ place c2 i 6) ⌝ }
+    requires { let c = column [] (now places) [] (now body) first in ⌜ (count ≤ 32) × (i < count) × Inside c i 3 × Inside c i 5 × ((s + n) * 1 ≤ place c i 4) × ((s + n) * 4 ≤ place c i 6) ⌝ }
     requires { ⌜ ((j : ℕ) → j < m → childAt (now schema) first count i j < 32) ⌝ }
-    ensures { λ _. ⌜ ((t t2 : Tree) (k2 : NodeKind) (ids : List ℕ) (okay : ℕ → Bool) (c : List ℕ) → Did (was plan) (was parts) write (ownAs t t2 (column [] (was places) [] (was body) first) (was plan) (denseNode ids) k2 i okay s n c) (was room) 0 c (left room)) ⌝ }
-    ensures { λ _. ⌜ ((formats buffers ids : List ℕ) (t2 : Tree) → length ids ≡ m → left ranges ≡ settleAs (treeOf formats (was schema) first count) t2 (column (was lengths) (was places) buffers (was body) first) (was plan) (denseNode ids) i s n (was ranges)) ⌝ }
+    ensures { λ _. ⌜ AnyUnion (column [] (was places) [] (was body) first) (was plan) i s n denseNode (λ own. Writes plan parts write own room 0) ⌝ }
+    ensures { λ _. ⌜ SettlesFields schema lengths places body plan first count denseNode m i s n ranges ⌝ }
 {
     let at = entries::place_at(places, first, i, 3);
     leaves::put_slots(plan, parts, body, room, write, i, 1, at, 1, s, n);
@@ -260,7 +259,7 @@ pub fn walk_keys(
     requires { ⌜ (i + 1 < 32) × (s + n < 2 ^ 63) × Inside (column [] (now places) [] (now body) first) i 3 × ((s + n) * w ≤ place (column [] (now places) [] [] first) i 4) × (isInteger code ≡ true) ⌝ }
     requires { ⌜ (validIn (column [] (now places) [] (now body) first) i ≡ true) × (maskTest true (validOf (column [] (now places) [] (now body) first) i) (s + n) ≡ true) ⌝ }
     requires { ⌜ ((w ≡ 1 → ⊥) → (w ≡ 2 → ⊥) → (w ≡ 4 → ⊥) → w ≡ 8) × ((w2 ≡ 1 → ⊥) → (w2 ≡ 2 → ⊥) → (w2 ≡ 4 → ⊥) → w2 ≡ 8) ⌝ }
-    ensures { λ g. ⌜ ((t t2 : Tree) (m m2 : Number) (c : List ℕ) → width m ≡ w → numberOf code ≡ some m2 → width m2 ≡ w2 → Did (was plan) (was parts) write (ownAs t t2 (column (was lengths) (was places) [] (was body) first) (was plan) (dictionaryNode m) (dictionaryNode m2) i (ok (validOf (column [] (was places) [] (was body) first) i)) s n c) (was room) g c (left room)) ⌝ }
+    ensures { λ g. let x = column (was lengths) (was places) [] (was body) first in ⌜ AnyKeys x (was plan) i s n w w2 code (λ own c. Stays plan parts write own room g c) ⌝ }
     ensures { λ g. ⌜ ((t t2 : Tree) (m : Number) → g ≡ 0 → left ranges ≡ settleAs t t2 (column (was lengths) (was places) [] (was body) first) (was plan) (dictionaryNode m) i s n (was ranges)) ⌝ }
 {
     let entries = entries::length_at(lengths, first, i + 1);

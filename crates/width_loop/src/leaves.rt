@@ -1,25 +1,25 @@
 // What one node writes, by its buffers: bits, slots, offsets, offsets with sizes, and keys.
 ghost use mathlib.Core.Path.{_≡_};
-ghost use mathlib.Core.Bool.{true, cond};
-ghost use mathlib.Core.List.{List, [], _∷_};
+ghost use mathlib.Core.Bool.{true};
+ghost use mathlib.Core.List.{[], _∷_};
 ghost use Prim.Native.Nat.{ℕ, _+_, _*_, _-_, _<_, _≤_, _^_};
 ghost use lib.ListN.{length, take, drop};
 ghost use lib.Dec.{ltb};
 ghost use Rattle.clauses.specs.Slices.{was, left};
 ghost use Rattle.number.specs.Number.{entry};
 ghost use Rattle.recode.specs.Recode.{allBelow};
-ghost use Rattle.columnar.specs.Row.{seg};
 ghost use Rattle.columnar.specs.Types.{half};
 ghost use Rattle.columnar.specs.Array.{item, ok};
 ghost use Rattle.columnar.specs.Plain.{OffsetsRule};
 ghost use Rattle.columnar.specs.Entries.{encodes};
 ghost use Rattle.columnar.specs.Test.{maskTest};
-ghost use Rattle.array_data.specs.Tables.{part, validOf, firstBuffer, place, validIn};
+ghost use Rattle.array_data.specs.Tables.{part, validOf, place, validIn};
 ghost use Rattle.array_data.specs.entries.Entries.{column};
-ghost use Rattle.walk.specs.Log.{Did, put, wrote, need, applyIf};
+ghost use Rattle.walk.specs.Log.{put, wrote, need, applyIf};
+ghost use Rattle.with_capacities.specs.Lent.{Stays, Writes};
 ghost use Rattle.anew.specs.widths.Converted.{spanOf, offsetsOf};
 ghost use Rattle.width_walks.specs.Convert.{bitsWalk};
-ghost use Rattle.width_loop.specs.Steps.{pairsWalk};
+ghost use Rattle.width_loop.specs.Steps.{pairsWalk, AnyPairs, keysIn};
 use array_data::entries;
 use nested_rows::lookups;
 use recode::limits;
@@ -40,7 +40,7 @@ pub fn put_bits(
 )
     requires { ⌜ (i < 32) × (s + n < 2 ^ 63) ⌝ }
     requires { ⌜ (validIn (column [] (now places) [] (now body) first) i ≡ true) × (maskTest true (validOf (column [] (now places) [] (now body) first) i) (s + n) ≡ true) ⌝ }
-    ensures { λ _. ⌜ ((c : List ℕ) → Did (was plan) (was parts) write (bitsWalk (was plan) i (ok (validOf (column [] (was places) [] (was body) first) i)) s n c) (was room) 0 c (left room)) ⌝ }
+    ensures { λ _. ⌜ Writes plan parts write (bitsWalk (was plan) i (ok (validOf (column [] (was places) [] (was body) first) i)) s n) room 0 ⌝ }
 {
     if plan_words::keeps_of(plan, i) == 0 {
         return;
@@ -115,7 +115,7 @@ pub fn put_offsets(
     requires { ⌜ (i < 32) × (at + size ≤ length (now body)) × (s + n < 2 ^ 63) ⌝ }
     requires { ⌜ ((w ≡ 4 → ⊥) → w ≡ 8) × ((w2 ≡ 4 → ⊥) → w2 ≡ 8) ⌝ }
     requires { ⌜ ((most : ℕ) × OffsetsRule w (part (now body) at size) most s n) ⌝ }
-    ensures { λ g. let p = part (was body) at size in ⌜ ((c : List ℕ) → Did (was plan) (was parts) write (need (ltb (spanOf w p s n) (half w2)) 6 c (wrote (put i 1 0 (encodes w2 (offsetsOf w p s n))) c)) (was room) g c (left room)) ⌝ }
+    ensures { λ g. let p = part (was body) at size in ⌜ Writes plan parts write (λ c. need (ltb (spanOf w p s n) (half w2)) 6 c (wrote (put i 1 0 (encodes w2 (offsetsOf w p s n))) c)) room g ⌝ }
 {
     let base = offset_at(body, at, size, w, s);
     let span = offset_at(body, at, size, w, s + n) - base;
@@ -194,7 +194,7 @@ pub fn put_pairs(
     requires { ⌜ ((w ≡ 4 → ⊥) → w ≡ 8) × ((w2 ≡ 4 → ⊥) → w2 ≡ 8) ⌝ }
     requires { ⌜ ((j : ℕ) → j < n → entry w (now body) (at + w * s) j < half w) × ((j : ℕ) → j < n → entry w (now body) (too + w * s) j < half w) ⌝ }
     requires { ⌜ ((j : ℕ) → j < n → entry w (now body) (at + w * s) j ≤ most) × ((j : ℕ) → j < n → entry w (now body) (too + w * s) j ≤ most) ⌝ }
-    ensures { λ g. ⌜ ((size room2 : ℕ) (c : List ℕ) → at + size ≤ length (was body) → too + room2 ≤ length (was body) → (s + n) * w ≤ size → (s + n) * w ≤ room2 → Did (was plan) (was parts) write (pairsWalk (part (was body) at size) (part (was body) too room2) w w2 i s n c) (was room) g c (left room)) ⌝ }
+    ensures { λ g. ⌜ AnyPairs (was body) at too w s n (λ p q c. Stays plan parts write (pairsWalk p q w w2 i s n c) room g c) ⌝ }
 {
     let offsets = at + w * s;
     if !all_fit(body, offsets as usize, w, w2, n as usize, most) {
@@ -251,7 +251,7 @@ pub fn put_keys(
     requires { let c = column [] (now places) [] (now body) first in ⌜ (i < 32) × (s + n < 2 ^ 63) × ((s + n) * w ≤ place c i 4) × (place c i 3 + place c i 4 ≤ length (now body)) ⌝ }
     requires { ⌜ (validIn (column [] (now places) [] (now body) first) i ≡ true) × (maskTest true (validOf (column [] (now places) [] (now body) first) i) (s + n) ≡ true) ⌝ }
     requires { ⌜ ((w ≡ 1 → ⊥) → (w ≡ 2 → ⊥) → (w ≡ 4 → ⊥) → w ≡ 8) × ((w2 ≡ 1 → ⊥) → (w2 ≡ 2 → ⊥) → (w2 ≡ 4 → ⊥) → w2 ≡ 8) ⌝ }
-    ensures { λ _. let c = column [] (was places) [] (was body) first in ⌜ left room ≡ applyIf (was plan) (was parts) write (put i 1 0 (encodes w2 (seg (λ j. cond (ok (validOf c i) j) (item w (firstBuffer c i) j) 0) s n)) ∷ []) (was room) ⌝ }
+    ensures { λ _. let c = column [] (was places) [] (was body) first in ⌜ left room ≡ applyIf (was plan) (was parts) write (put i 1 0 (encodes w2 (keysIn c w i s n)) ∷ []) (was room) ⌝ }
 {
     let at = entries::place_at(places, first, i, 3);
     let from = at + w * s;

@@ -13,15 +13,13 @@ ghost use mathlib.Core.List.{List, []};
 ghost use Prim.Native.Nat.{ℕ, _+_, _<_, _≤_};
 ghost use Rattle.clauses.specs.Slices.{was, left};
 ghost use Rattle.array_data.specs.Tables.{lengthOf};
-ghost use Rattle.array_data.specs.Typed.{tablesFrom};
 ghost use Rattle.array_data.specs.entries.Entries.{column};
-ghost use Rattle.array_data.specs.type_tree.Lent.{treeOf};
 ghost use Rattle.leaf_walk.specs.Walks.{Walks};
 ghost use Rattle.source_rules.specs.kinds.Rows.{tablesOf};
 ghost use Rattle.columns.specs.Grounds.{columnGround};
 ghost use Rattle.width_walks.specs.target_rules.Target.{isTarget};
-ghost use Rattle.width_walks.specs.Nodes.{fromIn, manyIn, turn, settle, treeWalk};
-ghost use Rattle.width_loop.specs.Here.{Accepted};
+ghost use Rattle.width_walks.specs.Nodes.{fromIn, manyIn};
+ghost use Rattle.width_loop.specs.Here.{Accepted, turnLent, settleLent, walkLent};
 use array_data::entries;
 use walk::plan_words;
 
@@ -45,8 +43,8 @@ fn walk_node(
 ) -> u8
     requires { ⌜ Accepted (now formats) (now schema) (now lengths) (now places) (now body) first count target × (i < count) ⌝ }
     requires { ⌜ fromIn (now ranges) i + manyIn (now ranges) i ≤ lengthOf (column (now lengths) [] [] [] first) i ⌝ }
-    ensures { λ g. ⌜ ((buffers : List ℕ) → Walks plan parts write (turn (treeOf (was formats) (was schema) first count) (treeOf (was formats) (was schema) target count) (column (was lengths) (was places) buffers (was body) first) (was plan) i (was ranges)) counters room g) ⌝ }
-    ensures { λ g. ⌜ ((buffers : List ℕ) → g ≡ 0 → left ranges ≡ settle (treeOf (was formats) (was schema) first count) (treeOf (was formats) (was schema) target count) (column (was lengths) (was places) buffers (was body) first) (was plan) i (was ranges)) ⌝ }
+    ensures { λ g. ⌜ ((buffers : List ℕ) → Walks plan parts write (turnLent formats schema lengths places body plan buffers first count target i (was ranges)) counters room g) ⌝ }
+    ensures { λ g. ⌜ ((buffers : List ℕ) → g ≡ 0 → left ranges ≡ settleLent formats schema lengths places body plan buffers first count target i (was ranges)) ⌝ }
 {
     if width_walks::target_rules::is_ends_at(formats, schema, first as usize, i) {
         return 0;
@@ -94,7 +92,7 @@ pub fn convert_walk(
 ) -> u8
     requires { ⌜ ((buffers : List ℕ) × (columnGround (now formats) (now schema) (tablesOf (now lengths) (now places) buffers (now body)) first n ≡ 0)) ⌝ }
     requires { ⌜ isTarget (now formats) (now schema) first n target n ≡ true ⌝ }
-    ensures { λ g. ⌜ ((buffers : List ℕ) → Walks plan parts write (treeWalk (treeOf (was formats) (was schema) first n) (treeOf (was formats) (was schema) target n) (tablesFrom (tablesOf (was lengths) (was places) buffers (was body)) first) (was plan)) counters room g) ⌝ }
+    ensures { λ g. ⌜ ((buffers : List ℕ) → Walks plan parts write (walkLent formats schema lengths places body plan buffers first n target) counters room g) ⌝ }
 {
     let mut ranges = [0u64; 64];
     ranges[1] = entries::length_at(lengths, first, 0);

@@ -7,9 +7,9 @@ ghost use Prim.Native.Nat.{ℕ, _<_, _^_};
 ghost use Rattle.clauses.specs.Slices.{was, left};
 ghost use Rattle.schema.specs.formats.Code.{isFixed, isString, isListView, isList, isUnion, isRunEnd, widthOf};
 ghost use Rattle.schema.specs.Tree.{codeOf};
-ghost use Rattle.walk.specs.Log.{Did};
 ghost use Rattle.leaf_walk.specs.Walks.{Walks};
-ghost use Rattle.width_loop.specs.Here.{Here, ownHere, settledHere};
+ghost use Rattle.with_capacities.specs.Lent.{Stays};
+ghost use Rattle.width_loop.specs.Here.{Here, ownLent, settledLent};
 use crate::kinds;
 use crate::leaves;
 use crate::runs;
@@ -44,8 +44,8 @@ pub fn number_node(
 ) -> u8
     requires { ⌜ ((count : ℕ) × Here (now formats) (now schema) (now lengths) (now places) (now body) first count target i s n) ⌝ }
     requires { ⌜ isFixed (codeOf (now formats) (now schema) first i) ≡ true ⌝ }
-    ensures { λ g. ⌜ ((buffers c : List ℕ) (count : ℕ) → Did (was plan) (was parts) write (ownHere (was formats) (was schema) (was lengths) (was places) buffers (was body) (was plan) first count target i s n c) (was room) g c (left room)) ⌝ }
-    ensures { λ g. ⌜ ((buffers : List ℕ) (count : ℕ) → g ≡ 0 → left ranges ≡ settledHere (was formats) (was schema) (was lengths) (was places) buffers (was body) (was plan) first count target i s n (was ranges)) ⌝ }
+    ensures { λ g. ⌜ ((buffers c : List ℕ) (count : ℕ) → Stays plan parts write (ownLent formats schema lengths places body plan buffers first count target i s n c) room g c) ⌝ }
+    ensures { λ g. ⌜ ((buffers : List ℕ) (count : ℕ) → g ≡ 0 → left ranges ≡ settledLent formats schema lengths places body plan buffers first count target i s n (was ranges)) ⌝ }
 {
     let w = width_at(formats, schema, first, i);
     if schema::dictionary_of(schema, first as usize, i) == 0 {
@@ -94,7 +94,7 @@ pub fn string_node(
 ) -> u8
     requires { ⌜ ((count : ℕ) × Here (now formats) (now schema) (now lengths) (now places) (now body) first count target i s n) ⌝ }
     requires { ⌜ isString (codeOf (now formats) (now schema) first i) ≡ true ⌝ }
-    ensures { λ g. ⌜ ((buffers : List ℕ) (count : ℕ) → Walks plan parts write (ownHere (was formats) (was schema) (was lengths) (was places) buffers (was body) (was plan) first count target i s n) counters room g) ⌝ }
+    ensures { λ g. ⌜ ((buffers : List ℕ) (count : ℕ) → Walks plan parts write (ownLent formats schema lengths places body plan buffers first count target i s n) counters room g) ⌝ }
 {
     let w = width_at(formats, schema, first, i);
     let w2 = width_at(formats, schema, target, i);
@@ -135,8 +135,8 @@ pub fn list_view_node(
 ) -> u8
     requires { ⌜ ((count : ℕ) × Here (now formats) (now schema) (now lengths) (now places) (now body) first count target i s n) ⌝ }
     requires { ⌜ isListView (codeOf (now formats) (now schema) first i) ≡ true ⌝ }
-    ensures { λ g. ⌜ ((buffers c : List ℕ) (count : ℕ) → Did (was plan) (was parts) write (ownHere (was formats) (was schema) (was lengths) (was places) buffers (was body) (was plan) first count target i s n c) (was room) g c (left room)) ⌝ }
-    ensures { λ g. ⌜ ((buffers : List ℕ) (count : ℕ) → g ≡ 0 → left ranges ≡ settledHere (was formats) (was schema) (was lengths) (was places) buffers (was body) (was plan) first count target i s n (was ranges)) ⌝ }
+    ensures { λ g. ⌜ ((buffers c : List ℕ) (count : ℕ) → Stays plan parts write (ownLent formats schema lengths places body plan buffers first count target i s n c) room g c) ⌝ }
+    ensures { λ g. ⌜ ((buffers : List ℕ) (count : ℕ) → g ≡ 0 → left ranges ≡ settledLent formats schema lengths places body plan buffers first count target i s n (was ranges)) ⌝ }
 {
     let w = width_at(formats, schema, first, i);
     let w2 = width_at(formats, schema, target, i);
@@ -178,8 +178,8 @@ pub fn list_node(
 ) -> u8
     requires { ⌜ ((count : ℕ) × Here (now formats) (now schema) (now lengths) (now places) (now body) first count target i s n) ⌝ }
     requires { ⌜ isList (codeOf (now formats) (now schema) first i) ≡ true ⌝ }
-    ensures { λ g. ⌜ ((buffers c : List ℕ) (count : ℕ) → Did (was plan) (was parts) write (ownHere (was formats) (was schema) (was lengths) (was places) buffers (was body) (was plan) first count target i s n c) (was room) g c (left room)) ⌝ }
-    ensures { λ g. ⌜ ((buffers : List ℕ) (count : ℕ) → g ≡ 0 → left ranges ≡ settledHere (was formats) (was schema) (was lengths) (was places) buffers (was body) (was plan) first count target i s n (was ranges)) ⌝ }
+    ensures { λ g. ⌜ ((buffers c : List ℕ) (count : ℕ) → Stays plan parts write (ownLent formats schema lengths places body plan buffers first count target i s n c) room g c) ⌝ }
+    ensures { λ g. ⌜ ((buffers : List ℕ) (count : ℕ) → g ≡ 0 → left ranges ≡ settledLent formats schema lengths places body plan buffers first count target i s n (was ranges)) ⌝ }
 {
     let w = width_at(formats, schema, first, i);
     let w2 = width_at(formats, schema, target, i);
@@ -220,8 +220,8 @@ pub fn union_node(
 )
     requires { ⌜ ((target : ℕ) × Here (now formats) (now schema) (now lengths) (now places) (now body) first count target i s n) ⌝ }
     requires { ⌜ isUnion (codeOf (now formats) (now schema) first i) ≡ true ⌝ }
-    ensures { λ _. ⌜ ((buffers c : List ℕ) (target : ℕ) → Did (was plan) (was parts) write (ownHere (was formats) (was schema) (was lengths) (was places) buffers (was body) (was plan) first count target i s n c) (was room) 0 c (left room)) ⌝ }
-    ensures { λ _. ⌜ ((buffers : List ℕ) (target : ℕ) → left ranges ≡ settledHere (was formats) (was schema) (was lengths) (was places) buffers (was body) (was plan) first count target i s n (was ranges)) ⌝ }
+    ensures { λ _. ⌜ ((buffers c : List ℕ) (target : ℕ) → Stays plan parts write (ownLent formats schema lengths places body plan buffers first count target i s n c) room 0 c) ⌝ }
+    ensures { λ _. ⌜ ((buffers : List ℕ) (target : ℕ) → left ranges ≡ settledLent formats schema lengths places body plan buffers first count target i s n (was ranges)) ⌝ }
 {
     let m = schema::below_of(schema, first as usize, i) as usize;
     let k = count as usize;
@@ -285,8 +285,8 @@ pub fn run_node(
 ) -> u8
     requires { ⌜ ((count : ℕ) × Here (now formats) (now schema) (now lengths) (now places) (now body) first count target i s n) ⌝ }
     requires { ⌜ isRunEnd (codeOf (now formats) (now schema) first i) ≡ true ⌝ }
-    ensures { λ g. ⌜ ((buffers : List ℕ) (count : ℕ) → Walks plan parts write (ownHere (was formats) (was schema) (was lengths) (was places) buffers (was body) (was plan) first count target i s n) counters room g) ⌝ }
-    ensures { λ g. ⌜ ((buffers : List ℕ) (count : ℕ) → g ≡ 0 → left ranges ≡ settledHere (was formats) (was schema) (was lengths) (was places) buffers (was body) (was plan) first count target i s n (was ranges)) ⌝ }
+    ensures { λ g. ⌜ ((buffers : List ℕ) (count : ℕ) → Walks plan parts write (ownLent formats schema lengths places body plan buffers first count target i s n) counters room g) ⌝ }
+    ensures { λ g. ⌜ ((buffers : List ℕ) (count : ℕ) → g ≡ 0 → left ranges ≡ settledLent formats schema lengths places body plan buffers first count target i s n (was ranges)) ⌝ }
 {
     let w = width_at(formats, schema, first, i + 1);
     let w2 = width_at(formats, schema, target, i + 1);

@@ -6,10 +6,9 @@ ghost use Prim.Native.Nat.{ℕ, _<_, _≤_};
 ghost use Rattle.clauses.specs.Slices.{was, left};
 ghost use Rattle.schema.specs.Tree.{childAt};
 ghost use Rattle.array_data.specs.Tables.{lengthOf};
-ghost use Rattle.array_data.specs.Typed.{Tree};
 ghost use Rattle.array_data.specs.entries.Entries.{column};
-ghost use Rattle.array_data.specs.type_tree.Lent.{treeOf};
-ghost use Rattle.width_walks.specs.Nodes.{range, childRanges};
+ghost use Rattle.width_walks.specs.Nodes.{range};
+ghost use Rattle.width_loop.specs.Here.{SettlesChildren};
 use array_data::entries;
 
 // The rows of node k: n from row a on.
@@ -56,7 +55,7 @@ pub fn settle_fields(
 )
     requires { ⌜ (count ≤ 32) × (i < count) ⌝ }
     requires { ⌜ ((j : ℕ) → j < m → childAt (now schema) first count i j < 32) ⌝ }
-    ensures { λ _. ⌜ ((formats places buffers body plan : List ℕ) (t : Tree) → let c = column (was lengths) places buffers body first in left ranges ≡ childRanges (treeOf formats (was schema) first count) t c plan (λ k. cond whole 0 s) (λ k. cond whole (lengthOf c k) n) i m (was ranges)) ⌝ }
+    ensures { λ _. ⌜ SettlesChildren schema lengths first count whole s n i m ranges ⌝ }
 {
     let mut node = i + 1;
     let mut j = 0;

@@ -1,8 +1,7 @@
 // Run ends: clipped to the rows that are written, and the values of their runs.
 ghost use mathlib.Core.Path.{_≡_};
-ghost use mathlib.Core.Bool.{Bool};
 ghost use mathlib.Core.List.{[], _∷_, _++_};
-ghost use Prim.Native.Nat.{ℕ, suc, _+_, _*_, _-_, _<_, _≤_, _^_};
+ghost use Prim.Native.Nat.{suc, _+_, _*_, _-_, _<_, _≤_, _^_};
 ghost use lib.ListN.{length};
 ghost use Rattle.clauses.specs.Slices.{was, left};
 ghost use Rattle.number.specs.Number.{encode};
@@ -14,8 +13,9 @@ ghost use Rattle.walk.specs.State.{addRows};
 ghost use Rattle.walk.specs.Log.{put, applyIf};
 ghost use Rattle.leaf_walk.specs.Walks.{Walks};
 ghost use Rattle.recode.specs.Recode.{lessened};
-ghost use Rattle.width_walks.specs.Nodes.{range, ownAs, settleAs};
+ghost use Rattle.width_walks.specs.Nodes.{range, settleAs};
 ghost use Rattle.width_loop.specs.Steps.{RunsHere, runsWalk, runsRange};
+ghost use Rattle.width_loop.specs.Here.{AnyTree};
 use crate::ranges;
 use array_data::entries;
 use nested_rows::lookups;
@@ -143,7 +143,7 @@ pub fn walk_runs(
     requires { ⌜ (i + 2 < 32) × (s + n < 2 ^ 63) × (offsetOf (column (now lengths) [] [] [] first) (suc i) + lengthOf (column (now lengths) [] [] [] first) (suc i) < 2 ^ 63) ⌝ }
     requires { ⌜ ((w ≡ 2 → ⊥) → (w ≡ 4 → ⊥) → w ≡ 8) × ((w2 ≡ 2 → ⊥) → (w2 ≡ 4 → ⊥) → w2 ≡ 8) ⌝ }
     requires { ⌜ RunsHere (column (now lengths) (now places) [] (now body) first) i w s n ⌝ }
-    ensures { λ g. ⌜ ((t t2 : Tree) (okay : ℕ → Bool) → Walks plan parts write (ownAs t t2 (column (was lengths) (was places) [] (was body) first) (was plan) (runEndNode w) (runEndNode w2) i okay s n) counters room g) ⌝ }
+    ensures { λ g. ⌜ AnyTree (column (was lengths) (was places) [] (was body) first) (was plan) i s n (runEndNode w) (runEndNode w2) (λ own. Walks plan parts write own counters room g) ⌝ }
     ensures { λ g. ⌜ ((t t2 : Tree) → g ≡ 0 → left ranges ≡ settleAs t t2 (column (was lengths) (was places) [] (was body) first) (was plan) (runEndNode w) i s n (was ranges)) ⌝ }
 {
     if n == 0 {

@@ -3,22 +3,21 @@
 pub mod open_walk;
 
 ghost use mathlib.Core.Path.{_≡_};
-ghost use mathlib.Core.List.{List};
-ghost use mathlib.Core.Bool.{Bool, _&&_};
-ghost use Prim.Native.Nat.{ℕ, _≤_};
+ghost use mathlib.Core.Bool.{_&&_};
+ghost use Prim.Native.Nat.{_≤_};
 ghost use lib.ListN.{length, replicate};
 ghost use lib.Dec.{eqb};
 ghost use Rattle.clauses.specs.Slices.{was, left};
 ghost use Rattle.array_data.specs.lent_tables.Lent.{tables};
 ghost use Rattle.source_rules.specs.kinds.Rows.{tablesOf};
 ghost use Rattle.refinement.specs.orders.Order.{sourceCount};
+ghost use Rattle.with_capacities.specs.Lent.{lentAll};
 ghost use Rattle.plan.specs.parts.Parts.{partTotal, partsPlaced};
 ghost use Rattle.sound.specs.trying.Alike.{Alike};
 ghost use Rattle.plan.specs.Plan.{planned, Plannable};
-ghost use Rattle.refinement.specs.opening.Open.{openWalk, settled, opening};
+ghost use Rattle.refinement.specs.opening.Open.{openWalk, opening};
 ghost use Rattle.refinement.specs.opening.Ask.{asked};
-ghost use Rattle.refinement.specs.orders.Order.{lent};
-ghost use Rattle.with_capacities.specs.Answer.{Answers, Makes, lentTables, Plans};
+ghost use Rattle.with_capacities.specs.Answer.{Makes, MakesDraft, lentTables, Plans};
 use sound::trying;
 use walk::plan_words;
 
@@ -105,7 +104,7 @@ fn make(
     room: &mut [u8],
 ) -> u8
     requires { ⌜ (sourceCount (now draft) ≤ 16) × (length (now draft) ≡ 872) × (length (now plan) ≡ 872) × (length (now counters) ≡ 96) ⌝ }
-    ensures { λ r. ⌜ ((formats schema buffers : List ℕ) (keep gaps : Bool) → let t = tablesOf (was lengths) (was places) buffers (was body) in was draft ≡ planned formats schema t (was sources) keep gaps → Answers (settled formats schema (was sources) t keep gaps (was parts) (was plan) (was counters) (was room) (openWalk (lent (was draft) (was parts) (was sources) (was lengths) (was places) (was body)) (replicate 96 0))) r (left plan) (left counters) (left room)) ⌝ }
+    ensures { λ r. let o = openWalk (lentAll draft parts sources lengths places body) (replicate 96 0) in ⌜ MakesDraft draft parts sources lengths places body o plan counters room r ⌝ }
 {
     let mut tried = uncounted(draft);
     let g = crate::open_walk::open_walk(

@@ -4,17 +4,18 @@
 // Follows `try_with_capacities` of arrow-data 60.1.0 src/transform/mod.rs, Apache-2.0; see NOTICE.
 ghost use mathlib.Core.Path.{_≡_};
 ghost use mathlib.Core.List.{List};
-ghost use mathlib.Core.Bool.{Bool, cond};
+ghost use mathlib.Core.Bool.{cond};
 ghost use Prim.Native.Nat.{ℕ, suc, _≤_, _<_, _^_};
 ghost use lib.Dec.{eqb};
-ghost use Rattle.clauses.specs.Slices.{was, left};
+ghost use Rattle.clauses.specs.Slices.{was};
 ghost use Rattle.walk.specs.State.{word};
-ghost use Rattle.walk.specs.Log.{Did, done, each};
+ghost use Rattle.walk.specs.Log.{done, each};
 ghost use Rattle.leaf_walk.specs.Walks.{Walks};
-ghost use Rattle.refinement.specs.orders.Order.{sourceCount};
+ghost use Rattle.refinement.specs.orders.Order.{lent, sourceCount};
+ghost use Rattle.with_capacities.specs.Lent.{Writes, lentAll, AnyLent};
 ghost use Rattle.plan.specs.parts.Parts.{nodesOf};
 ghost use Rattle.refinement.specs.opening.Open.{beginGaps, firstOffset, joinSource, joinEntries, entriesHold, keysHold, openDictionary, openWalk};
-ghost use Rattle.refinement.specs.orders.Order.{lent};
+ghost use Rattle.with_capacities.specs.Answer.{OnlyCounts};
 use array_data::lent_tables;
 use plan::dictionaries;
 use walk::plan_words;
@@ -24,7 +25,7 @@ use walk::plan_words;
 // The gap of node i begins at 1, if it is a run-end node and one run for a gap is chosen.
 fn begin_gap(plan: &[u64], counters: &mut [u64; plan_words::COUNTERS], i: usize)
     requires { ⌜ i < 32 ⌝ }
-    ensures { λ _. ⌜ ((parts sources lengths places body room : List ℕ) (write : Bool) → Did (was plan) parts write (beginGaps (lent (was plan) parts sources lengths places body) i (was counters)) room 0 (left counters) room) ⌝ }
+    ensures { λ _. ⌜ OnlyCounts plan counters (λ l. beginGaps l i) ⌝ }
 {
     let code = plan_words::code_of(plan, i);
     if !schema::formats::is_run_end(code) {
@@ -38,7 +39,7 @@ fn begin_gap(plan: &[u64], counters: &mut [u64; plan_words::COUNTERS], i: usize)
 
 // The gap of every run-end node. No byte changes.
 fn begin_gaps(plan: &[u64], counters: &mut [u64; plan_words::COUNTERS])
-    ensures { λ _. ⌜ ((parts sources lengths places body room : List ℕ) (write : Bool) → Did (was plan) parts write (each (beginGaps (lent (was plan) parts sources lengths places body)) (nodesOf (was plan)) 0 (was counters)) room 0 (left counters) room) ⌝ }
+    ensures { λ _. ⌜ OnlyCounts plan counters (λ l. each (beginGaps l) (nodesOf (was plan)) 0) ⌝ }
 {
     let n = plan::parts::node_count(plan);
     let mut i = 0;
@@ -53,7 +54,7 @@ fn begin_gaps(plan: &[u64], counters: &mut [u64; plan_words::COUNTERS])
 // The first zero offset of node i, if it is a byte string or list that has parts. No counter changes.
 fn first_offset(plan: &[u64], parts: &[u64], room: &mut [u8], write: bool, i: usize)
     requires { ⌜ i < 32 ⌝ }
-    ensures { λ _. ⌜ ((sources lengths places body c : List ℕ) → Did (was plan) (was parts) write (firstOffset (lent (was plan) (was parts) sources lengths places body) i c) (was room) 0 c (left room)) ⌝ }
+    ensures { λ _. ⌜ AnyLent plan parts (λ l. Writes plan parts write (firstOffset l i) room 0) ⌝ }
 {
     let code = plan_words::code_of(plan, i);
     if !(schema::formats::is_string(code) | schema::formats::is_list(code)) {
@@ -68,7 +69,7 @@ fn first_offset(plan: &[u64], parts: &[u64], room: &mut [u8], write: bool, i: us
 
 // The first zero offset of every byte string and list that has parts.
 pub fn first_offsets(plan: &[u64], parts: &[u64], room: &mut [u8], write: bool)
-    ensures { λ _. ⌜ ((sources lengths places body c : List ℕ) → Did (was plan) (was parts) write (each (firstOffset (lent (was plan) (was parts) sources lengths places body)) (nodesOf (was plan)) 0 c) (was room) 0 c (left room)) ⌝ }
+    ensures { λ _. ⌜ AnyLent plan parts (λ l. Writes plan parts write (each (firstOffset l) (nodesOf (was plan)) 0) room 0) ⌝ }
 {
     let n = plan::parts::node_count(plan);
     let mut i = 0;
@@ -104,7 +105,7 @@ fn join_source(
     s: usize,
 ) -> u8
     requires { ⌜ (i < 2 ^ 32) × (s < 2 ^ 32) ⌝ }
-    ensures { λ g. ⌜ Walks plan parts write (joinSource (lent (was plan) (was parts) (was sources) (was lengths) (was places) (was body)) i s) counters room g ⌝ }
+    ensures { λ g. ⌜ Walks plan parts write (joinSource (lentAll plan parts sources lengths places body) i s) counters room g ⌝ }
 {
     let first = lent_tables::at_u32(sources, 2 * s) as usize;
     let n = lent_tables::length_of(lengths, first + i);
@@ -140,7 +141,7 @@ fn join_entries(
     i: usize,
 ) -> u8
     requires { ⌜ (i < 2 ^ 32) × (sourceCount (now plan) ≤ 16) ⌝ }
-    ensures { λ g. ⌜ Walks plan parts write (joinEntries (lent (was plan) (was parts) (was sources) (was lengths) (was places) (was body)) i) counters room g ⌝ }
+    ensures { λ g. ⌜ Walks plan parts write (joinEntries (lentAll plan parts sources lengths places body) i) counters room g ⌝ }
 {
     let m = source_count(plan);
     let mut s = 0;
@@ -180,7 +181,7 @@ fn join_values(
     i: usize,
 ) -> u8
     requires { ⌜ (i < 32) × (sourceCount (now plan) ≤ 16) ⌝ }
-    ensures { λ g. ⌜ Walks plan parts write (λ c. cond (eqb (word (was plan) i 7) 0) (done c) (joinEntries (lent (was plan) (was parts) (was sources) (was lengths) (was places) (was body)) (suc i) c)) counters room g ⌝ }
+    ensures { λ g. ⌜ Walks plan parts write (λ c. cond (eqb (word (was plan) i 7) 0) (done c) (joinEntries (lentAll plan parts sources lengths places body) (suc i) c)) counters room g ⌝ }
 {
     if lent_tables::at_u64(plan, 8 * i + 7) == 0 {
         return 0;
@@ -253,7 +254,7 @@ fn open_dictionary(
     i: usize,
 ) -> u8
     requires { ⌜ (i < 32) × (sourceCount (now plan) ≤ 16) ⌝ }
-    ensures { λ g. ⌜ Walks plan parts write (openDictionary (lent (was plan) (was parts) (was sources) (was lengths) (was places) (was body)) i) counters room g ⌝ }
+    ensures { λ g. ⌜ Walks plan parts write (openDictionary (lentAll plan parts sources lengths places body) i) counters room g ⌝ }
 {
     if plan_words::dictionary_of(plan, i) == 0 {
         return 0;
@@ -295,7 +296,7 @@ fn open_dictionaries(
     write: bool,
 ) -> u8
     requires { ⌜ sourceCount (now plan) ≤ 16 ⌝ }
-    ensures { λ g. ⌜ Walks plan parts write (each (openDictionary (lent (was plan) (was parts) (was sources) (was lengths) (was places) (was body))) (nodesOf (was plan)) 0) counters room g ⌝ }
+    ensures { λ g. ⌜ Walks plan parts write (each (openDictionary (lentAll plan parts sources lengths places body)) (nodesOf (was plan)) 0) counters room g ⌝ }
 {
     let n = plan::parts::node_count(plan);
     let mut i = 0;
@@ -333,7 +334,7 @@ pub fn open_walk(
     write: bool,
 ) -> u8
     requires { ⌜ sourceCount (now plan) ≤ 16 ⌝ }
-    ensures { λ g. ⌜ Walks plan parts write (openWalk (lent (was plan) (was parts) (was sources) (was lengths) (was places) (was body))) counters room g ⌝ }
+    ensures { λ g. ⌜ Walks plan parts write (openWalk (lentAll plan parts sources lengths places body)) counters room g ⌝ }
 {
     begin_gaps(plan, counters);
     first_offsets(plan, parts, room, write);

@@ -5,7 +5,7 @@ use mathlib.Core.Option.{Option·getD}
 use Prim.Native.Nat.{ℕ, zero, suc}
 use lib.Dec.{eqb}
 use Rattle.columnar.specs.Types.{int, w1, fixed, Ty, tPlain, tView, tListView, tList, tSparse, tDense, tRunEnd, tDictionary}
-use Rattle.schema.specs.formats.Code.{isFixed, isString, isView, isListView, isList, isUnion, isRunEnd, widthOf}
+use Rattle.schema.specs.formats.Code.{isFixed, isString, isView, isListView, isList, isUnion, isSparse, isRunEnd, widthOf}
 use Rattle.schema.specs.formats.Types.{numberOf, numberOr, plainOf}
 use Rattle.schema.specs.Tree.{dictionary, nullable, codeOf, idsOf}
 use Rattle.array_data.specs.Typed.{Tree, nodeOf}
@@ -27,7 +27,7 @@ tyOf t (suc f) i =
     (cond (isView (code i)) tView
     (cond (isListView (code i)) (tListView (widthOf (code i)) (tyOf t f (suc i)))
     (cond (isList (code i)) (tList (widthOf (code i)) (tyOf t f (suc i)))
-    (cond (isUnion (code i)) (cond (eqb (code i) 21) (tSparse ids flags fields) (tDense ids flags fields))
+    (cond (isUnion (code i)) (cond (isSparse (code i)) (tSparse ids flags fields) (tDense ids flags fields))
     (cond (isRunEnd (code i)) (tRunEnd (widthOf (code (suc i))) (tyOf t f (suc (suc i))))
     (tPlain (fixed (int w1)))))))))
 

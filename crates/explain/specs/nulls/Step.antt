@@ -1,9 +1,11 @@
 -- What the functions that look for a stop of nulls cite beside its definition. Assumes nothing.
 use mathlib.Core.Path.{_≡_}
-use mathlib.Core.List.{List}
+use mathlib.Core.List.{List, []}
 use Prim.Native.Nat.{ℕ}
+use Rattle.clauses.specs.Slices.{was, Slice}
 use Rattle.walk.specs.State.{Join}
 use Rattle.walk.specs.Log.{Out}
+use Rattle.leaf_walk.specs.Join.{join}
 use Rattle.explain.specs.declared.stops.Why.{Why}
 use Rattle.explain.specs.stops.Why.{nothing}
 use Rattle.explain.specs.stops.Nulls.{whyNulls}
@@ -15,6 +17,10 @@ abbrev pub whyAfter : Join → ℕ → NullStep → List ℕ → Why
 whyAfter x depth On c = nothing
 whyAfter x depth (Here w) c = w
 whyAfter x depth (Below k n) c = whyNulls x depth k n c
+
+-- .. whatever the parts are, which are not read
+abbrev pub AnyParts : Slice → (Join → ℕ → Type 0) → Type 0
+AnyParts plan P = (parts : List ℕ) (depth : ℕ) → P (join (was plan) parts [] [] [] 0 0) depth
 
 -- of a child that is walked: it goes on, with the counters after it, or is refused, and w is what stops it
 abbrev pub Row : Out → Why → Join → ℕ → NullStep → List ℕ → Type 0

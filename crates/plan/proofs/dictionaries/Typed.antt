@@ -12,7 +12,7 @@ use Rattle.columnar.specs.Plain.{PlainBody}
 use Rattle.columnar.specs.Dictionary.{Dictionary}
 use Rattle.columnar.specs.Reading.{Column}
 use Rattle.columnar.specs.Test.{every, maskTest}
-use Rattle.model.specs.Opening.{keeps, ptrEq, shared, entriesBefore, startOfKeys}
+use Rattle.model.specs.Opening.{keeps, ptrEq, shared, startOfKeys}
 use Rattle.array_data.specs.Tables.{Tables, lengthOf, offsetOf, validOf}
 use Rattle.array_data.specs.Typed.{Tree, tablesFrom, starts, bodyOf, columnOf}
 use Rattle.array_data.specs.lent_tables.Lent.{tables, maskOf}
@@ -68,14 +68,8 @@ module _ (t : Tree) (x : Tables) (sources : List ℕ) where
     pub alike : (s : ℕ) → Alike (dictionaryAt k p i s) (lentAt s)
     alike s = record { same-off = refl; same-len = refl; same-starts = starts-are p (tablesFrom x (firstOf sources s)) (suc i) }
 
-    pub ptr-typed : (s v : ℕ) → ptrEq (dictionaryAt k p i s) (dictionaryAt k p i v) ≡ ptrEq (lentAt s) (lentAt v)
-    ptr-typed = ptr-same (dictionaryAt k p i) lentAt alike
-
     pub shared-typed : (m : ℕ) → shared m (dictionaryAt k p i) ≡ shared m lentAt
     shared-typed = shared-same (dictionaryAt k p i) lentAt alike
-
-    pub entries-typed : (j : ℕ) → entriesBefore (dictionaryAt k p i) j ≡ entriesBefore lentAt j
-    entries-typed = entries-same (dictionaryAt k p i) lentAt (λ s. refl)
 
     pub start-typed : (m j : ℕ) → startOfKeys m (dictionaryAt k p i) j ≡ startOfKeys m lentAt j
     start-typed = start-same (dictionaryAt k p i) lentAt alike

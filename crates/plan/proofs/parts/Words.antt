@@ -1,18 +1,17 @@
 -- The words of a plan and its parts: which buffers of a kind have one, and that the words that name the parts decide none of it, so
 -- that an opening may write them one after the other. Assumes nothing.
-use mathlib.Core.Path.{_≡_, refl, ap, ap₂, sym, _∙_}
+use mathlib.Core.Path.{_≡_, refl, ap, ap₂, _∙_}
 use mathlib.Core.Bool.{Bool, true, false, not, cond, _&&_, _||_}
 use mathlib.Core.List.{List}
 use Prim.Native.Nat.{ℕ, zero, suc, _+_, _*_, _-_, _%_, _≤_, _<_, min}
 use native.Mathlib.Omega.{arith}
-use lib.ListN.{getD, set}
-use lib.Seq.{getD-set-other}
+use lib.ListN.{getD}
 use lib.Dec.{leb, ltb, eqb}
 use borrow.Author.Tests.{lt-ltb, leb-true, ne-eqb}
 use Rattle.columnar.specs.Test.{every}
-use Rattle.schema.specs.formats.Code.{isString, isListView, isList}
+use Rattle.schema.specs.formats.Code.{isString, isList}
 use Rattle.array_data.proofs.lent_tables.Laws.{and-left, and-right}
-use Rattle.walk.specs.State.{word, codeOf, dictionaryOf, keepsOf}
+use Rattle.walk.specs.State.{word, codeOf, keepsOf}
 use Rattle.plan.specs.parts.Parts.{nodesOf, bufferCount, hasOffsets, copied, validityParts, bufferParts, hasPart, partsBefore, partTotal, partWord, Numbered}
 use Rattle.plan.proofs.parts.Laws.{few-bits, few-parts}
 use Rattle.plan.proofs.parts.Placed.{every-at}
@@ -49,15 +48,6 @@ string-buffers code h =
     let u = leb-true code 14 (and-right (leb 11 code) (leb code 14) h) in
     leb-true 2 (bufferCount code) (range (λ c. leb 2 (bufferCount c)) 11 4 refl code l (omega arith))
 
-pub list-view-buffers : (code : ℕ) → isListView code ≡ true → 2 ≤ bufferCount code
-list-view-buffers code h =
-    let l = leb-true 17 code (and-left (leb 17 code) (leb code 18) h) in
-    let u = leb-true code 18 (and-right (leb 17 code) (leb code 18) h) in
-    leb-true 2 (bufferCount code) (range (λ c. leb 2 (bufferCount c)) 17 2 refl code l (omega arith))
-
-pub dense-buffers : (code : ℕ) → code ≡ 22 → 2 ≤ bufferCount code
-dense-buffers code e = rw e (omega arith)
-
 module _ (plan : List ℕ) (i : ℕ) (c : copied plan i ≡ true) where
   pub has-bits : (keepsOf plan i ≡ 0 → ⊥) → codeOf plan i < 21 → hasPart plan i 0 ≡ true
   unfolding hasPart validityParts
@@ -66,11 +56,6 @@ module _ (plan : List ℕ) (i : ℕ) (c : copied plan i ≡ true) where
   pub has-buffers : (b : ℕ) → b < bufferCount (codeOf plan i) → hasPart plan i (suc b) ≡ true
   unfolding hasPart bufferParts
   has-buffers b l = rw c (lt-ltb b (bufferCount (codeOf plan i)) l)
-
--- a node behind one with no dictionary is copied
-pub copied-plain : (plan : List ℕ) (i : ℕ) → dictionaryOf plan i ≡ 0 → copied plan (suc i) ≡ true
-unfolding copied
-copied-plain plan i e = rw e
 
 -- ---- the words that name the parts
 
@@ -81,17 +66,6 @@ pub record Alike (s t : List ℕ) : Type 0 where
   pub dictionary : (i : ℕ) → word s i 1 ≡ word t i 1
   pub keeps : (i : ℕ) → word s i 5 ≡ word t i 5
   pub joined : (i : ℕ) → word s i 7 ≡ word t i 7
-
--- word 6 is none of them
-pub set-alike : (s : List ℕ) (i v : ℕ) → i < 32 → Alike s (set s (8 * i + 6) v)
-set-alike s i v l =
-    record {
-      nodes = sym (getD-set-other s (8 * i + 6) 865 v 0 (λ e. omega arith));
-      code = λ k. sym (getD-set-other s (8 * i + 6) (8 * k + 0) v 0 (λ e. omega arith));
-      dictionary = λ k. sym (getD-set-other s (8 * i + 6) (8 * k + 1) v 0 (λ e. omega arith));
-      keeps = λ k. sym (getD-set-other s (8 * i + 6) (8 * k + 5) v 0 (λ e. omega arith));
-      joined = λ k. sym (getD-set-other s (8 * i + 6) (8 * k + 7) v 0 (λ e. omega arith));
-    }
 
 pub alike-then : {s t u : List ℕ} → Alike s t → Alike t u → Alike s u
 alike-then a b =
@@ -126,11 +100,6 @@ module _ (s t : List ℕ) (a : Alike s t) where
   unfolding partsBefore
   alike-before zero = refl
   alike-before (suc i) = let h = alike-before i in let v = alike-validity i in let b = alike-buffers i in omega arith
-
-  pub alike-has : (i b : ℕ) → hasPart s i b ≡ hasPart t i b
-  unfolding hasPart
-  alike-has i zero = ap (λ (x : ℕ). eqb x 1) (alike-validity i)
-  alike-has i (suc b) = ap (ltb b) (alike-buffers i)
 
   pub alike-word : (i : ℕ) → partWord s i ≡ partWord t i
   alike-word i = ap₂ (λ (x y : ℕ). x + y) (alike-before i) (alike-validity i)

@@ -6,7 +6,8 @@ use mathlib.Core.List.{List}
 use Prim.Native.Nat.{ℕ, _+_, _*_, _-_, _^_, _≤_, _<_}
 use lib.ListN.{length, getD}
 use lib.Dec.{leb, ltb, eqb}
-use Rattle.number.specs.Number.{entry}
+use Rattle.clauses.specs.Slices.{was, left, Slice}
+use Rattle.number.specs.Number.{entry, splice}
 use Rattle.bits.specs.Bits.{bits}
 use Rattle.columnar.specs.Row.{seg}
 use Rattle.columnar.specs.Entries.{encodes}
@@ -70,6 +71,14 @@ module _ (x : Keys) where
   -- the new keys of all rows, of a dictionary of e entries
   unfoldable pub newKeys : ℕ → List ℕ
   newKeys e = encodes (x .wide) (seg (newKey e) 0 (x .len))
+
+  -- .. by the entries below e
+  abbrev pub newBelow : ℕ → List ℕ
+  newBelow e = encodes (x .wide) (seg (newKey e) 0 (x .len))
+
+  -- a room that holds the keys by the entries below e, at `to`, holds those by the entries below e′
+  abbrev pub Renumbers : (room : Slice) → (to e e′ : ℕ) → Type 0
+  Renumbers room to e e′ = (old : List ℕ) → to + x .wide * x .len ≤ length old → was room ≡ splice to (newBelow e) old → left room ≡ splice to (newBelow e′) old
 
   -- where the key of row r falls in the block of n entries from b on; 512 where the row is null or its key falls outside
   unfoldable pub slotIn : ℕ → ℕ → ℕ → ℕ

@@ -151,5 +151,4 @@ module _ (x : Lent) (buffers counters room : List ℕ) (base : ℕ) where
         cond sizesFit
         (cond (every keptIn (nodesOf (x .plan)))
         (cond (roomFits && tablesFit) (record { ground = 0; lengths = lengthTable; nulls = nullTable; places = placeTable; buffers = bufferTable }) (refused 14))
-        (refused 12))
-        (refused 9)
+        (refused 12)) (refused 9)

@@ -104,5 +104,4 @@ module _ (formats schema sources : List ℕ) (x : Tables) (keep gaps : Bool) (pa
         cond (leb (length room) ceiling)
         (cond (eqb (sourcesGround formats schema x sources) 0)
         (cond roomPlaced (settled (openWalk opened (replicate 96 0))) (refused 14))
-        (refused (sourcesGround formats schema x sources)))
-        (refused 9)
+        (refused (sourcesGround formats schema x sources))) (refused 9)

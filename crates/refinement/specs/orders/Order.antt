@@ -56,8 +56,7 @@ module _ (x : Lent) (counters room : List ℕ) where
       cond (eqb (o .ans) 0)
       (cond (partsWithin (x .plan) (x .parts) (length room))
       (cond (partsHold (x .plan) (o .counters) (x .parts)) (record { ground = 0; counters = o .counters; room = apply (x .plan) (x .parts) (o .log) room }) (refused 13))
-      (refused 14))
-      (refused (o .ans))
+      (refused 14)) (refused (o .ans))
 
   -- 14 where the counters are not those of a join, or the plan or the room is none that an order can be walked in
   abbrev pub inJoin : After → After

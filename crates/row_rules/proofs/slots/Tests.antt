@@ -20,7 +20,7 @@ use Rattle.columnar.specs.View.{viewOf}
 use Rattle.columnar.specs.Test.{every, member, same, onlyIf, oneViewTest}
 use Rattle.columnar.proofs.Items.{number-take, entry-end}
 use Rattle.columnar.proofs.Test.{Agrees, same-agrees, eqb-agrees}
-use Rattle.row_rules.specs.slots.Slots.{idsDeclared, fieldOf, positionsWithin, positionGood, validAt, keysBelow, validKeysBelow, liesIn, startAt, bytesAt, viewGood, viewsGood, validViewsGood, listed, parts}
+use Rattle.row_rules.specs.slots.Slots.{idsDeclared, fieldOf, positionsWithin, positionGood, validAt, keysBelow, validKeysBelow, liesIn, startAt, bytesAt, viewGood, viewsGood, validViewsGood, listed}
 
 -- ---- tests of every row
 
@@ -190,11 +190,6 @@ pub record Named (s t : List ℕ) (first count : ℕ) (bufs : List (List ℕ)) :
   pub many : length bufs ≡ count
   pub part : (k : ℕ) → k < count → getD bufs k [] ≡ take (bytesAt t first k) (drop (startAt t first k) s)
   pub inside : (k : ℕ) → k < count → startAt t first k + bytesAt t first k ≤ length s
-
-pub parts-named : (s t : List ℕ) (first count : ℕ) → ((k : ℕ) → k < count → startAt t first k + bytesAt t first k ≤ length s)
-    → Named s t first count (parts s t first count)
-parts-named s t first count h =
-    record { many = length-listed _ count; part = λ k l. getD-listed _ count k [] l; inside = h }
 
 -- tests of the same fact are equal
 same-test : (a b : Bool) {P Q : Type 0} → Agrees a P → Agrees b Q → (P → Q) → (Q → P) → a ≡ b

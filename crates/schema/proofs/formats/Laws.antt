@@ -47,14 +47,6 @@ code-out s at len h = rw (lt-leb (at + len) (length s) h)
 pub code-in : (s : List ℕ) (at len : ℕ) → at + len ≤ length s → codeAt s at len ≡ codeOf (take (at + len - at) (drop at s))
 code-in s at len h = let e : at + len - at ≡ len = omega arith in rw (le-leb (at + len) (length s) h, e)
 
-inside-by : (x : Bool) (y : ℕ) → (cond x y 0 ≡ 0 → ⊥) → x ≡ true
-inside-by true y h = refl
-inside-by false y h = absurd (h refl)
-
--- a format with a code lies inside
-pub code-inside : (s : List ℕ) (at len : ℕ) → (codeAt s at len ≡ 0 → ⊥) → at + len ≤ length s
-code-inside s at len h = leb-true _ _ (inside-by (leb (at + len) (length s)) (codeOf (take len (drop at s))) h)
-
 pub either : (x : Bool) (y : ℕ) → isUnion (cond x y 0) ≡ true → (x ≡ true) × (isUnion y ≡ true)
 either true y h = (refl, h)
 either false y h = absurd (false≢true h)

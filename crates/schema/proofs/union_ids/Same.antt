@@ -1,5 +1,5 @@
 -- Comparing two formats. Assumes nothing.
-use mathlib.Core.Path.{_≡_, refl, ap, sym, subst, _∙_}
+use mathlib.Core.Path.{_≡_, refl, ap, sym, _∙_}
 use mathlib.Core.Bool.{Bool, true, false, not, cond, _&&_, _||_, and-false}
 use mathlib.Core.List.{List, [], _∷_, map}
 use mathlib.Core.Option.{Option, none, some}
@@ -54,10 +54,6 @@ pub fine : (s : List ℕ) (at len : ℕ) → Fine (idsAt s at len)
 fine s at len =
     fine-cond (leb (at + len) (length s)) _
     (fine-cond (isUnion (codeOf (take len (drop at s)))) _ (fine-list (drop 4 (take len (drop at s)))))
-
--- what a caller learns of the ids of a format
-pub ids-allowed : (s : List ℕ) (at len : ℕ) (l : List ℕ) → idsAt s at len ≡ some l → Allowed l
-ids-allowed s at len l e = subst Fine e (fine s at len)
 
 pub written-length : (o : Option (List ℕ)) (s : List ℕ) → Fine o → length s ≡ 16 → length (written o s) ≡ 16
 written-length none s h e = e

@@ -78,6 +78,10 @@ isUnion code = between 21 22 code
 abbrev pub isSparse : ℕ → Bool
 isSparse code = eqb code 21
 
+-- +ud:
+abbrev pub isDense : ℕ → Bool
+isDense code = eqb code 22
+
 -- +r
 abbrev pub isRunEnd : ℕ → Bool
 isRunEnd code = between 23 23 code

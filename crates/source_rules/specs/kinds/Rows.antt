@@ -2,7 +2,7 @@
 -- of `array_data` come to, with the offset in slots and every place in bytes of the body. Assumes nothing.
 use mathlib.Core.Path.{_≡_}
 use mathlib.Core.Bool.{Bool, true, cond, _&&_}
-use mathlib.Core.List.{List}
+use mathlib.Core.List.{List, List·Memᴰ}
 use Prim.Native.Nat.{ℕ, _+_, _*_}
 use lib.ListN.{getD}
 use lib.Dec.{leb, eqb}
@@ -22,6 +22,10 @@ pub record Ready (x : Tables) (k : ℕ) : Type 0 where
   pub counted : Counted x k
   pub inside : oneIn x k ≡ true
   pub masked : maskOf x k true ≡ true
+
+-- lens are the lengths of the children that `node` names by id, at their fields
+abbrev pub Children : Tables → (ids lens : List ℕ) → (ℕ → ℕ) → Type 0
+Children x ids lens node = (c : ℕ) → List·Memᴰ c ids → lengthOf x (node c) ≡ getD lens (fieldOf ids c) 0
 
 -- "sparse children at least offset + length long": `count` slots, and the length of each id's child at its field
 unfoldable pub reach : List ℕ → List ℕ → ℕ → Bool

@@ -1,6 +1,0 @@
-// Lent type trees as types.
-
-// How deep a type tree may be.
-pub fn deepest() -> usize {
-    8
-}
