@@ -189,28 +189,25 @@ fn put_bytes(
     number::copy::copy_bytes(room, (start + o) as usize, body, from, n as usize);
 }
 
-// The numbers of n slots of node i.
+// The numbers of n slots of node i, which stand in the body from `at` on, behind p others.
 fn put_numbers(
     plan: &[u64],
     parts: &[u64],
-    places: &[u64],
     body: &[u8],
-    counters: &[u64],
     room: &mut [u8],
-    first: usize,
     i: usize,
+    at: u64,
+    p: u64,
     w: u64,
     slot: u64,
     n: u64,
 )
-    requires { ⌜ (first < 2 ^ 32) × (i < 32) × (slot + n < 2 ^ 63) ⌝ }
-    requires { ⌜ (isFixed (codeOf (now plan) i) ≡ true) × (dictionaryOf (now plan) i ≡ 0) × (w ≡ entrySize (codeOf (now plan) i)) ⌝ }
-    requires { ⌜ place (join [] [] [] (now places) [] first 0) i 3 + w * (slot + n) ≤ length (now body) ⌝ }
-    requires { ⌜ startOf (now plan) (now parts) i 1 + rows (now counters) i * w + w * n ≤ length (now room) ⌝ }
-    ensures { λ _. ⌜ ((lengths : List ℕ) (source : ℕ) (child : Walk) → Did (was plan) (was parts) true (copyData (join (was plan) (was parts) lengths (was places) (was body) first source) child (codeOf (was plan) i) i slot n (was counters)) (was room) 0 (was counters) (left room)) ⌝ }
+    requires { ⌜ (i < 32) × (isFixed (codeOf (now plan) i) ≡ true) × (dictionaryOf (now plan) i ≡ 0) × (w ≡ entrySize (codeOf (now plan) i)) ⌝ }
+    requires { ⌜ (at + w * (slot + n) ≤ length (now body)) × (startOf (now plan) (now parts) i 1 + p * w + w * n ≤ length (now room)) ⌝ }
+    ensures { λ _. ⌜ ((lengths places counters : List ℕ) (first source : ℕ) (child : Walk) → let j = join (was plan) (was parts) lengths places (was body) first source in at ≡ place j i 3 → p ≡ rows counters i → Did (was plan) (was parts) true (copyData j child (codeOf (was plan) i) i slot n counters) (was room) 0 counters (left room)) ⌝ }
 {
-    let from = lent_tables::place(places, first + i, 3) + w * slot;
-    let o = plan_words::scale(lent_tables::at_u64(counters, 3 * i), w);
+    let from = at + w * slot;
+    let o = plan_words::scale(p, w);
     put_bytes(plan, parts, room, i, o, body, from as usize, w * n);
 }
 
@@ -235,25 +232,14 @@ fn copy_slots(
     if !leaf_walk::rows_in(body, at, w, slot, n) {
         return 12;
     }
-    let r = plan_words::grow(lent_tables::at_u64(counters, 0), n);
+    let p = lent_tables::at_u64(counters, 0);
+    let r = plan_words::grow(p, n);
     let g = room_ground(plan, parts, room.len(), w, r);
     if g != 0 {
         return g;
     }
     put_validity(plan, parts, places, body, counters, room, first, 0, slot, n);
-    put_numbers(
-        plan,
-        parts,
-        places,
-        body,
-        counters,
-        room,
-        first,
-        0,
-        w,
-        slot,
-        n,
-    );
+    put_numbers(plan, parts, body, room, 0, at, p, w, slot, n);
     leaf_counters::add_to(counters, 0, n);
     0
 }
