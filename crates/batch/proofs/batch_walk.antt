@@ -6,6 +6,7 @@ pub mod PlainLeaf
 pub mod TextLeaf
 pub mod FewRise
 pub mod Steady
+pub mod TextPuts
 pub mod TextRows
 pub mod ListTried
 pub mod Loops

@@ -16,5 +16,6 @@ mod side;
 mod sizes;
 mod survey;
 mod text_lists;
+mod text_puts;
 mod text_rows;
 mod texts;

@@ -32,7 +32,7 @@ pub fn is_text(plan: &[u64], k: usize) -> bool
 }
 
 // n bytes of body from `from` on, as the bytes of node k from its byte o on.
-fn put_chars(
+pub fn put_chars(
     plan: &[u64],
     parts: &[u64],
     room: &mut [u8],

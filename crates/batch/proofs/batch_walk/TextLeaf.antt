@@ -163,7 +163,7 @@ module _ (x : Join) (k : ℕ) (text : isText (x .plan) k ≡ true) where
       ∙ done-next c (λ c2. next (copyData x child C k slot n c2) (λ c3. done (addRows k n c3)))
       ∙ ap (λ o. next o (λ c3. done (addRows k n c3))) (data-is child slot n c)
 
-  abbrev Rows : ℕ → ℕ → List ℕ → Out
+  abbrev pub Rows : ℕ → ℕ → List ℕ → Out
   Rows a n c = found far (slotOf x k a n) 12 c (λ slot. next (copyString x k W slot n c) (λ c2. done (addRows k n c2)))
 
   walk-is : k < 32 → (a n : ℕ) (c : List ℕ) → copyWalk x 1 k a n c ≡ Rows a n c
@@ -172,7 +172,7 @@ module _ (x : Join) (k : ℕ) (text : isText (x .plan) k ≡ true) where
       need-is 12 c (found far (slotOf x k a n) 12 c (λ slot. copySlots x (copyWalk x 0) k slot n c)) (lt-ltb k 32 small)
       ∙ ap (found far (slotOf x k a n) 12 c) (fun-ext (λ slot. slots-is (copyWalk x 0) n c slot))
 
-  text-is : k < 32 → (a n : ℕ) (c : List ℕ) → batchLeaf x k a n c ≡ need (Rises a n) 12 c (Rows a n c)
+  pub text-is : k < 32 → (a n : ℕ) (c : List ℕ) → batchLeaf x k a n c ≡ need (Rises a n) 12 c (Rows a n c)
   unfolding batchLeaf
   text-is small a n c =
       need-is 12 c (need (steady x k a n) 12 c (copyWalk x 1 k a n c)) leaf
@@ -180,7 +180,7 @@ module _ (x : Join) (k : ℕ) (text : isText (x .plan) k ≡ true) where
       ∙ ap (need (Rises a n) 12 c) (walk-is small a n c)
 
   -- a slot that is one is the offset and the row
-  slot-is : (a n : ℕ) {s : ℕ} → s ≡ slotOf x k a n → s < far → s ≡ offsetOf x k + a
+  pub slot-is : (a n : ℕ) {s : ℕ} → s ≡ slotOf x k a n → s < far → s ≡ offsetOf x k + a
   unfolding slotOf
   slot-is a n {s} e h = go (ltb (offsetOf x k + a + n) far) e
     where
