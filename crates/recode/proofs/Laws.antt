@@ -57,7 +57,7 @@ pub recode-none : (w w′ : ℕ) (s : List ℕ) (from at : ℕ) (room : List ℕ
 unfolding recoded
 recode-none w w′ s from at room = pieces-none _ at room
 
-recoded-long : (w w′ : ℕ) (s : List ℕ) (from n : ℕ) → length (recoded w w′ s from n) ≡ w′ * n
+pub recoded-long : (w w′ : ℕ) (s : List ℕ) (from n : ℕ) → length (recoded w w′ s from n) ≡ w′ * n
 unfolding recoded
 recoded-long w w′ s from n = length-numbers w′ (entry w s from) n
 

@@ -49,7 +49,7 @@ entry-behind w room p at a k e h =
     let m : at + w * a + w * k ≡ at + w * (a + k) = omega arith in
     ap (number w) ((rw e at d) ∙ rw m refl)
 
-numbers-join : (w : ℕ) (g : ℕ → ℕ) (a m : ℕ) → numbers w g (a + m) ≡ numbers w g a ++ numbers w (λ k. g (a + k)) m
+pub numbers-join : (w : ℕ) (g : ℕ → ℕ) (a m : ℕ) → numbers w g (a + m) ≡ numbers w g a ++ numbers w (λ k. g (a + k)) m
 unfolding pieces
 numbers-join w g a zero = rw (add-zero, append-nil) refl
 numbers-join w g a (suc m) = rw (add-suc, numbers-join w g a m, append-assoc) refl

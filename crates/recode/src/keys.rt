@@ -21,8 +21,8 @@ fn recode_1_2(room: &mut [u8], at: usize, body: &[u8], from: usize, n: usize)
     }
 }
 
-// n entries of 1 byte from `from` on as entries of 4 bytes at `at`.
-fn recode_1_4(room: &mut [u8], at: usize, body: &[u8], from: usize, n: usize)
+// n entries of 1 byte from `from` on as entries of 4 bytes at `at`. One by one.
+fn singles_1_4(room: &mut [u8], at: usize, body: &[u8], from: usize, n: usize)
     requires { ⌜ at + 4 * n ≤ length (now room) ⌝ }
     requires { ⌜ from + 1 * n ≤ length (now body) ⌝ }
     ensures { λ _. ⌜ now (room .exit) ≡ splice at (recoded 1 4 (now (body .entry)) from n) (now (room .entry)) ⌝ }
@@ -33,6 +33,39 @@ fn recode_1_4(room: &mut [u8], at: usize, body: &[u8], from: usize, n: usize)
         number::write_u32(room, at + 4 * i, v as u32);
         i += 1;
     }
+}
+
+// 64 entries of 1 byte from `from` on as entries of 4 bytes at `at`: by way of 2 bytes, which spares the compiler a quarter of its shuffles.
+fn block_1_4(room: &mut [u8], at: usize, body: &[u8], from: usize)
+    requires { ⌜ (at + 256 ≤ length (now room)) × (from + 64 ≤ length (now body)) ⌝ }
+    ensures { λ _. ⌜ now (room .exit) ≡ splice at (recoded 1 4 (now (body .entry)) from 64) (now (room .entry)) ⌝ }
+{
+    let mut wide = [0u8; 128];
+    recode_1_2(&mut wide, 0, body, from, 64);
+    offsets::less_2_4(room, at, &wide, 0, 64, 0);
+}
+
+// 64 m entries of 1 byte from `from` on as entries of 4 bytes at `at`.
+fn blocks_1_4(room: &mut [u8], at: usize, body: &[u8], from: usize, m: usize)
+    requires { ⌜ (at + 256 * m ≤ length (now room)) × (from + 64 * m ≤ length (now body)) ⌝ }
+    ensures { λ _. ⌜ now (room .exit) ≡ splice at (recoded 1 4 (now (body .entry)) from (64 * m)) (now (room .entry)) ⌝ }
+{
+    let mut i = 0;
+    while i < m {
+        block_1_4(room, at + 256 * i, body, from + 64 * i);
+        i += 1;
+    }
+}
+
+// n entries of 1 byte from `from` on as entries of 4 bytes at `at`.
+fn recode_1_4(room: &mut [u8], at: usize, body: &[u8], from: usize, n: usize)
+    requires { ⌜ at + 4 * n ≤ length (now room) ⌝ }
+    requires { ⌜ from + 1 * n ≤ length (now body) ⌝ }
+    ensures { λ _. ⌜ now (room .exit) ≡ splice at (recoded 1 4 (now (body .entry)) from n) (now (room .entry)) ⌝ }
+{
+    let m = n / 64;
+    blocks_1_4(room, at, body, from, m);
+    singles_1_4(room, at + 256 * m, body, from + 64 * m, n - 64 * m);
 }
 
 // n entries of 1 byte from `from` on as entries of 8 bytes at `at`.

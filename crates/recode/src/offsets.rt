@@ -24,7 +24,7 @@ fn less_2_2(room: &mut [u8], at: usize, body: &[u8], from: usize, n: usize, base
 }
 
 // n entries of 2 bytes from `from` on, each less base, as entries of 4 bytes at `at`.
-fn less_2_4(room: &mut [u8], at: usize, body: &[u8], from: usize, n: usize, base: u64)
+pub fn less_2_4(room: &mut [u8], at: usize, body: &[u8], from: usize, n: usize, base: u64)
     requires { ⌜ at + 4 * n ≤ length (now room) ⌝ }
     requires { ⌜ from + 2 * n ≤ length (now body) ⌝ }
     ensures { λ _. ⌜ now (room .exit) ≡ splice at (lessened 2 4 (now (body .entry)) from base n) (now (room .entry)) ⌝ }
