@@ -159,6 +159,7 @@ pub fn walk_data(
             i,
             s,
             n,
+            code,
         );
     }
     if schema::formats::is_string(code) {
@@ -178,6 +179,7 @@ pub fn walk_data(
             i,
             s,
             n,
+            code,
         );
     }
     if schema::formats::is_view(code) {

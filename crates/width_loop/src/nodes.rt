@@ -24,7 +24,7 @@ fn width_at(formats: &[u8], schema: &[u32], first: u32, i: usize) -> u64
     schema::formats::width_of(schema::code_of(formats, schema, first as usize, i)) as u64
 }
 
-// Numbers and keys.
+// Numbers and keys, whose own code is known.
 pub fn number_node(
     formats: &[u8],
     schema: &[u32],
@@ -41,13 +41,14 @@ pub fn number_node(
     i: usize,
     s: u64,
     n: u64,
+    own: u8,
 ) -> u8
     requires { ⌜ ((count : ℕ) × Here (now formats) (now schema) (now lengths) (now places) (now body) first count target i s n) ⌝ }
-    requires { ⌜ isFixed (codeOf (now formats) (now schema) first i) ≡ true ⌝ }
+    requires { let c = codeOf (now formats) (now schema) first i in ⌜ (isFixed c ≡ true) × (own ≡ c) ⌝ }
     ensures { λ g. ⌜ ((buffers c : List ℕ) (count : ℕ) → Stays plan parts write (ownLent formats schema lengths places body plan buffers first count target i s n c) room g c) ⌝ }
     ensures { λ g. ⌜ ((buffers : List ℕ) (count : ℕ) → g ≡ 0 → left ranges ≡ settledLent formats schema lengths places body plan buffers first count target i s n (was ranges)) ⌝ }
 {
-    let w = width_at(formats, schema, first, i);
+    let w = schema::formats::width_of(own) as u64;
     if schema::dictionary_of(schema, first as usize, i) == 0 {
         let at = entries::place_at(places, first, i, 3);
         leaves::put_slots(plan, parts, body, room, write, i, 1, at, w, s, n);
@@ -74,7 +75,7 @@ pub fn number_node(
     )
 }
 
-// Byte strings.
+// Byte strings, whose own code is known.
 pub fn string_node(
     formats: &[u8],
     schema: &[u32],
@@ -91,12 +92,13 @@ pub fn string_node(
     i: usize,
     s: u64,
     n: u64,
+    own: u8,
 ) -> u8
     requires { ⌜ ((count : ℕ) × Here (now formats) (now schema) (now lengths) (now places) (now body) first count target i s n) ⌝ }
-    requires { ⌜ isString (codeOf (now formats) (now schema) first i) ≡ true ⌝ }
+    requires { let c = codeOf (now formats) (now schema) first i in ⌜ (isString c ≡ true) × (own ≡ c) ⌝ }
     ensures { λ g. ⌜ ((buffers : List ℕ) (count : ℕ) → Walks plan parts write (ownLent formats schema lengths places body plan buffers first count target i s n) counters room g) ⌝ }
 {
-    let w = width_at(formats, schema, first, i);
+    let w = schema::formats::width_of(own) as u64;
     let w2 = width_at(formats, schema, target, i);
     kinds::walk_string(
         plan,

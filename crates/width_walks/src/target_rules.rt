@@ -59,11 +59,14 @@ fn is_like_format(formats: &[u8], schema: &[u32], first: usize, first2: usize, i
     requires { ⌜ (first < 4294967296) × (first2 < 4294967296) × (i < 4294967296) ⌝ }
     ensures { λ r. ⌜ r ≡ likeFormats (was formats) (was schema) first first2 i ⌝ }
 {
+    if has_same_format(formats, schema, first, first2, i) {
+        return true;
+    }
     let keyed = schema::dictionary_of(schema, first, i) == 1;
     let ended = is_ends_at(formats, schema, first, i);
     let c = schema::code_of(formats, schema, first, i);
     let c2 = schema::code_of(formats, schema, first2, i);
-    has_same_format(formats, schema, first, first2, i) | is_other_width(keyed, ended, c, c2)
+    is_other_width(keyed, ended, c, c2)
 }
 
 // Whether the two nodes have the same flag, or one that says nothing of the type.

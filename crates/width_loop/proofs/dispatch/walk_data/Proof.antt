@@ -30,7 +30,7 @@ number-node-requires : tie.Need-number-node-requires
 number-node-requires c κs =
     let a = c .before .before .before .before .before .before .before .before .before .before .before .before .before .args in
     let z = c .before .before .before .before .before .before .before .before .before .before .before .before .before .pre in
-    ((a .count, z), told isFixed _ (c .before .before .before .before .code-of .ensures) (c .before .before .before .is-fixed .ensures) (c .before .before .if1 .taken))
+    ((a .count, z), (told isFixed _ (c .before .before .before .before .code-of .ensures) (c .before .before .before .is-fixed .ensures) (c .before .before .if1 .taken), c .before .before .before .before .code-of .ensures))
 
 same-length : tie.Need-same-length
 same-length c = search needs
@@ -48,7 +48,7 @@ string-node-requires : tie.Need-string-node-requires
 string-node-requires c κs =
     let a = c .before .before .before .before .before .before .before .before .before .before .before .before .before .before .before .args in
     let z = c .before .before .before .before .before .before .before .before .before .before .before .before .before .before .before .pre in
-    ((a .count, z), told isString _ (c .before .before .before .before .before .before .code-of .ensures) (c .before .before .before .is-string .ensures) (c .before .before .if2 .taken))
+    ((a .count, z), (told isString _ (c .before .before .before .before .before .before .code-of .ensures) (c .before .before .before .is-string .ensures) (c .before .before .if2 .taken), c .before .before .before .before .before .before .code-of .ensures))
 
 same-length-2 : tie.Need-same-length-2
 same-length-2 c = search needs
