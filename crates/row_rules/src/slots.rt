@@ -101,7 +101,7 @@ pub fn dense_good(body: &[u8], at: usize, too: usize, n: usize, ids: &[u8], lens
     true
 }
 
-// Whether each of the n keys at `at` is below bound. They are compared in their own width, many at once.
+// Whether each of the n keys at `at` is below bound: the largest of them is, which is found many at once.
 pub fn keys_below_u8(body: &[u8], at: usize, n: usize, bound: u64) -> bool
     requires { ⌜ at + n ≤ length (now body) ⌝ }
     ensures { λ r. ⌜ r ≡ keysBelow 1 (now (body .entry)) at bound n ⌝ }
@@ -109,17 +109,19 @@ pub fn keys_below_u8(body: &[u8], at: usize, n: usize, bound: u64) -> bool
     if 255 < bound {
         return true;
     }
-    let most = bound as u8;
-    let mut good = true;
+    if bound == 0 {
+        return n == 0;
+    }
+    let mut top: u8 = 0;
     let mut i = 0;
     while i < n {
         let key = number::read_u8(body, at + i);
-        if most <= key {
-            good = false;
+        if top < key {
+            top = key;
         }
         i += 1;
     }
-    good
+    top < (bound as u8)
 }
 
 // The same of the keys whose validity bit is 1: bit a of those from the byte `from` on is the first key's.

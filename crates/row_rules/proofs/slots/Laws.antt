@@ -5,10 +5,11 @@ use mathlib.Core.List.{List}
 use Prim.Native.Nat.{ℕ, zero, suc, _+_, _*_, _^_, _≤_, _<_}
 use native.Mathlib.Nat.{one-mul, lt-of-lt-of-le}
 use native.Mathlib.Numerals.{add-one}
+use native.Mathlib.Omega.{arith}
 use lib.ListN.{length, drop, getD}
 use lib.Seq.{drop-cons, drop-length, getD-drop}
-use lib.Dec.{ltb}
-use borrow.Author.Tests.{lt-ltb, le-ltb, eq-eqb, ne-eqb}
+use lib.Dec.{ltb, eqb}
+use borrow.Author.Tests.{ltb-true, ltb-false, lt-ltb, le-ltb, eq-eqb, ne-eqb}
 use Rattle.columnar.specs.Test.{every, onlyIf}
 use Rattle.columnar.proofs.Test.{every-false}
 use Rattle.number.specs.Number.{number, entry}
@@ -81,6 +82,33 @@ module _ (w : ℕ) (s : List ℕ) (at bound : ℕ) where
 
   pub keys-spoil : (i : ℕ) → bound ≤ entry w s at i → false ≡ keysBelow w s at bound (i + 1)
   keys-spoil i h = spoil _ i (le-ltb _ _ h)
+
+  -- no key is below 0
+  pub keys-none : bound ≡ 0 → (n : ℕ) → eqb n 0 ≡ keysBelow w s at bound n
+  keys-none h zero = eq-eqb 0 0 refl
+  keys-none h (suc n) = ne-eqb (suc n) 0 (λ (q : suc n ≡ 0). omega arith) ∙ subst (λ k. false ≡ keysBelow w s at bound k) (add-one n) (keys-spoil n (omega arith))
+
+  -- one more key beside the largest so far, which is a
+  module _ (i a v : ℕ) (e : ltb a bound ≡ keysBelow w s at bound i) (r : v ≡ entry w s at i) where
+    pub top-key : a < v → ltb v bound ≡ keysBelow w s at bound (i + 1)
+    top-key h = go (ltb v bound) refl
+      where
+        go : (b : Bool) → ltb v bound ≡ b → ltb v bound ≡ keysBelow w s at bound (i + 1)
+        go true t =
+            let l : v < bound = ltb-true _ _ t in
+            t ∙ keys-pass i (sym (lt-ltb a bound (omega arith)) ∙ e) (omega arith)
+        go false t =
+            let l : bound ≤ v = ltb-false _ _ t in
+            t ∙ keys-spoil i (omega arith)
+
+    pub top-stays : v ≤ a → ltb a bound ≡ keysBelow w s at bound (i + 1)
+    top-stays h = go (ltb a bound) refl
+      where
+        go : (b : Bool) → ltb a bound ≡ b → ltb a bound ≡ keysBelow w s at bound (i + 1)
+        go true t =
+            let l : a < bound = ltb-true _ _ t in
+            t ∙ keys-pass i (sym t ∙ e) (omega arith)
+        go false t = t ∙ sym (rw add-one (ap (λ (b : Bool). b && ltb (entry w s at i) bound) (sym e ∙ t)))
 
   module _ (from a : ℕ) where
     -- a key below bound
