@@ -4,4 +4,5 @@ pub mod Side
 pub mod Head
 pub mod Ends
 pub mod Fall
+pub mod Rows
 pub mod Texts

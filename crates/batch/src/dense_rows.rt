@@ -5,16 +5,14 @@ ghost use mathlib.Core.List.{List};
 ghost use Prim.Native.Nat.{ℕ, _+_, _*_, _<_, _≤_, _^_};
 ghost use lib.ListN.{length};
 ghost use Rattle.clauses.specs.Slices.{was};
-ghost use Rattle.number.specs.Number.{entry};
 ghost use Rattle.walk.specs.State.{bytesOf, addRows, setBytes, top};
 ghost use Rattle.walk.specs.Log.{Did};
 ghost use Rattle.leaf_walk.specs.Join.{join};
-ghost use Rattle.batch.specs.Stretch.{sumOf, stretches};
-ghost use Rattle.batch.specs.Batch.{batchLeaf};
+ghost use Rattle.batch.specs.Stretch.{sumOf};
 ghost use Rattle.batch.specs.batch_walk.Plain.{isText};
 ghost use Rattle.batch.specs.batch_walk.Side.{furthestOf};
-ghost use Rattle.batch.specs.batch_walk.Fall.{homeBy, takesOf, takesFrom};
 ghost use Rattle.batch.specs.batch_walk.Texts.{charsOf, Rising};
+ghost use Rattle.batch.specs.batch_walk.Rows.{takenFrom, takenOf, takenStretches};
 use crate::homes;
 use crate::numbers;
 use crate::sizes;
@@ -40,8 +38,8 @@ fn taken_chars(
 ) -> u64
     requires { ⌜ (ids + (slot + n) ≤ length (now body)) × (positions + 4 * (slot + n) ≤ length (now body)) × (slot + n < 2 ^ 63) ⌝ }
     requires { ⌜ ((v ≡ 4 → ⊥) → v ≡ 8) ⌝ }
-    requires { ⌜ (at + v * (offset + end + 1) ≤ length (now body)) × (offset + end < 2 ^ 63) × ((q : ℕ) → q < n → takesFrom (λ r. homeBy (now homes) (now body) (ids + (slot + r))) (λ r. entry 4 (now body) positions (slot + r)) k q + takesOf (λ r. homeBy (now homes) (now body) (ids + (slot + r))) k q ≤ end) ⌝ }
-    ensures { λ r. ⌜ ((r ≡ top → ⊥) → ((q : ℕ) → q < n → Rising v (was body) at most (offset + takesFrom (λ r. homeBy (was homes) (was body) (ids + (slot + r))) (λ r. entry 4 (was body) positions (slot + r)) k q) (takesOf (λ r. homeBy (was homes) (was body) (ids + (slot + r))) k q)) × (r ≡ sumOf (λ q. charsOf v (was body) at (offset + takesFrom (λ r. homeBy (was homes) (was body) (ids + (slot + r))) (λ r. entry 4 (was body) positions (slot + r)) k q) (takesOf (λ r. homeBy (was homes) (was body) (ids + (slot + r))) k q)) n)) ⌝ }
+    requires { ⌜ (at + v * (offset + end + 1) ≤ length (now body)) × (offset + end < 2 ^ 63) × ((q : ℕ) → q < n → takenFrom (now homes) (now body) ids positions slot k q + takenOf (now homes) (now body) ids slot k q ≤ end) ⌝ }
+    ensures { λ r. ⌜ ((r ≡ top → ⊥) → ((q : ℕ) → q < n → Rising v (was body) at most (offset + takenFrom (was homes) (was body) ids positions slot k q) (takenOf (was homes) (was body) ids slot k q)) × (r ≡ sumOf (λ q. charsOf v (was body) at (offset + takenFrom (was homes) (was body) ids positions slot k q) (takenOf (was homes) (was body) ids slot k q)) n)) ⌝ }
 {
     let mut sum: u64 = 0;
     let mut r: u64 = 0;
@@ -77,8 +75,8 @@ pub fn taken_tried(
 ) -> u64
     requires { ⌜ (first < 2 ^ 32) × (k < 32) × (v ≡ bytesOf (now plan) k) × (isText (now plan) k ≡ true) ⌝ }
     requires { ⌜ (ids + (slot + n) ≤ length (now body)) × (positions + 4 * (slot + n) ≤ length (now body)) × (slot + n < 2 ^ 63) ⌝ }
-    requires { ⌜ end ≡ furthestOf (λ q. takesFrom (λ r. homeBy (now homes) (now body) (ids + (slot + r))) (λ r. entry 4 (now body) positions (slot + r)) k q + takesOf (λ r. homeBy (now homes) (now body) (ids + (slot + r))) k q) n ⌝ }
-    ensures { λ t. ⌜ ((t ≡ top → ⊥) → (parts : List ℕ) (source : ℕ) (room : List ℕ) → Did (was plan) parts false (stretches (λ a m d. batchLeaf (join (was plan) parts (was lengths) (was places) (was body) first source) k a m d) (takesFrom (λ r. homeBy (was homes) (was body) (ids + (slot + r))) (λ r. entry 4 (was body) positions (slot + r)) k) (takesOf (λ r. homeBy (was homes) (was body) (ids + (slot + r))) k) n (was counters)) room 0 (addRows k (sumOf (takesOf (λ r. homeBy (was homes) (was body) (ids + (slot + r))) k) n) (setBytes k t (was counters))) room) ⌝ }
+    requires { ⌜ end ≡ furthestOf (λ q. takenFrom (now homes) (now body) ids positions slot k q + takenOf (now homes) (now body) ids slot k q) n ⌝ }
+    ensures { λ t. ⌜ ((t ≡ top → ⊥) → (parts : List ℕ) (source : ℕ) (room : List ℕ) → Did (was plan) parts false (takenStretches (join (was plan) parts (was lengths) (was places) (was body) first source) (was homes) ids positions slot k n (was counters)) room 0 (addRows k (sumOf (takenOf (was homes) (was body) ids slot k) n) (setBytes k t (was counters))) room) ⌝ }
 {
     if !numbers::reaches(lengths, places, body, first, k, v, plan_words::grow(end, 1)) {
         return u64::MAX;

@@ -5,14 +5,12 @@ ghost use mathlib.Core.List.{List};
 ghost use Prim.Native.Nat.{ℕ, _+_, _*_, _<_, _≤_, _^_};
 ghost use lib.ListN.{length};
 ghost use Rattle.clauses.specs.Slices.{was};
-ghost use Rattle.number.specs.Number.{entry};
 ghost use Rattle.walk.specs.Log.{Out};
 ghost use Rattle.leaf_walk.specs.Walks.{lentJoin, Walks};
 ghost use Rattle.batch.specs.Stretch.{sumOf, stretches};
-ghost use Rattle.batch.specs.Batch.{batchLeaf};
 ghost use Rattle.batch.specs.batch_walk.Plain.{isText};
 ghost use Rattle.batch.specs.batch_walk.Side.{furthestOf};
-ghost use Rattle.batch.specs.batch_walk.Fall.{homeBy, takesOf, takesFrom};
+ghost use Rattle.batch.specs.batch_walk.Rows.{takenFrom, takenOf, takenStretches};
 use crate::dense_rows;
 use crate::homes;
 use crate::texts;
@@ -53,8 +51,8 @@ fn copy_each(
     requires { ⌜ (first < 2 ^ 32) × (k < 32) × (isText (now plan) k ≡ true) ⌝ }
     requires { ⌜ (ids + (slot + n) ≤ length (now body)) × (positions + 4 * (slot + n) ≤ length (now body)) × (slot + n < 2 ^ 63) ⌝ }
     requires { ⌜ total ≤ n ⌝ }
-    requires { ⌜ (whole ≡ true → (walk : ℕ → ℕ → List ℕ → Out) (c : List ℕ) → stretches walk (takesFrom (λ r. homeBy (now homes) (now body) (ids + (slot + r))) (λ r. entry 4 (now body) positions (slot + r)) k) (takesOf (λ r. homeBy (now homes) (now body) (ids + (slot + r))) k) n c ≡ walk begin total c) ⌝ }
-    ensures { λ g. ⌜ ((source : ℕ) → Walks plan parts write (stretches (λ a m d. batchLeaf (lentJoin plan parts lengths places body first source) k a m d) (takesFrom (λ r. homeBy (was homes) (was body) (ids + (slot + r))) (λ r. entry 4 (was body) positions (slot + r)) k) (takesOf (λ r. homeBy (was homes) (was body) (ids + (slot + r))) k) n) counters room g) ⌝ }
+    requires { ⌜ (whole ≡ true → (walk : ℕ → ℕ → List ℕ → Out) (c : List ℕ) → stretches walk (takenFrom (now homes) (now body) ids positions slot k) (takenOf (now homes) (now body) ids slot k) n c ≡ walk begin total c) ⌝ }
+    ensures { λ g. ⌜ ((source : ℕ) → Walks plan parts write (takenStretches (lentJoin plan parts lengths places body first source) (was homes) ids positions slot k n) counters room g) ⌝ }
 {
     let w = lookups::width_at(plan, k);
     let mut a = if_whole(whole, begin);
@@ -114,9 +112,9 @@ pub fn copy_texts(
 ) -> u8
     requires { ⌜ (first < 2 ^ 32) × (k < 32) × (isText (now plan) k ≡ true) ⌝ }
     requires { ⌜ (ids + (slot + n) ≤ length (now body)) × (positions + 4 * (slot + n) ≤ length (now body)) × (slot + n < 2 ^ 63) ⌝ }
-    requires { ⌜ (total ≡ sumOf (takesOf (λ r. homeBy (now homes) (now body) (ids + (slot + r))) k) n) × (end ≡ furthestOf (λ q. takesFrom (λ r. homeBy (now homes) (now body) (ids + (slot + r))) (λ r. entry 4 (now body) positions (slot + r)) k q + takesOf (λ r. homeBy (now homes) (now body) (ids + (slot + r))) k q) n) ⌝ }
-    requires { ⌜ (whole ≡ true → (walk : ℕ → ℕ → List ℕ → Out) (c : List ℕ) → stretches walk (takesFrom (λ r. homeBy (now homes) (now body) (ids + (slot + r))) (λ r. entry 4 (now body) positions (slot + r)) k) (takesOf (λ r. homeBy (now homes) (now body) (ids + (slot + r))) k) n c ≡ walk begin total c) ⌝ }
-    ensures { λ g. ⌜ ((source : ℕ) → Walks plan parts write (stretches (λ a m d. batchLeaf (lentJoin plan parts lengths places body first source) k a m d) (takesFrom (λ r. homeBy (was homes) (was body) (ids + (slot + r))) (λ r. entry 4 (was body) positions (slot + r)) k) (takesOf (λ r. homeBy (was homes) (was body) (ids + (slot + r))) k) n) counters room g) ⌝ }
+    requires { ⌜ (total ≡ sumOf (takenOf (now homes) (now body) ids slot k) n) × (end ≡ furthestOf (λ q. takenFrom (now homes) (now body) ids positions slot k q + takenOf (now homes) (now body) ids slot k q) n) ⌝ }
+    requires { ⌜ (whole ≡ true → (walk : ℕ → ℕ → List ℕ → Out) (c : List ℕ) → stretches walk (takenFrom (now homes) (now body) ids positions slot k) (takenOf (now homes) (now body) ids slot k) n c ≡ walk begin total c) ⌝ }
+    ensures { λ g. ⌜ ((source : ℕ) → Walks plan parts write (takenStretches (lentJoin plan parts lengths places body first source) (was homes) ids positions slot k n) counters room g) ⌝ }
 {
     if !write {
         if !whole {

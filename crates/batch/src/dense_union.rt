@@ -15,7 +15,8 @@ ghost use Rattle.batch.specs.Dense.{batchFields, batchDense};
 ghost use Rattle.batch.specs.Batch.{batchLeaf};
 ghost use Rattle.batch.specs.batch_walk.Plain.{isPlain, isFlat, reached};
 ghost use Rattle.batch.specs.batch_walk.Side.{furthestOf};
-ghost use Rattle.batch.specs.batch_walk.Fall.{Homed, homeBy, takesOf, takesFrom, Fallen};
+ghost use Rattle.batch.specs.batch_walk.Fall.{Homed, homeBy, Fallen};
+ghost use Rattle.batch.specs.batch_walk.Rows.{takenFrom, takenOf, takenStretches};
 use crate::dense_texts;
 use crate::gather;
 use crate::homes;
@@ -47,7 +48,7 @@ fn copy_stretches(
 ) -> u8
     requires { ⌜ (first < 2 ^ 32) × (k < 32) × (isPlain (now plan) k ≡ true) ⌝ }
     requires { ⌜ (ids + (slot + n) ≤ length (now body)) × (positions + 4 * (slot + n) ≤ length (now body)) × (slot + n < 2 ^ 63) ⌝ }
-    ensures { λ g. ⌜ ((source : ℕ) → Walks plan parts write (stretches (λ a m d. batchLeaf (lentJoin plan parts lengths places body first source) k a m d) (takesFrom (λ r. homeBy (was homes) (was body) (ids + (slot + r))) (λ r. entry 4 (was body) positions (slot + r)) k) (takesOf (λ r. homeBy (was homes) (was body) (ids + (slot + r))) k) n) counters room g) ⌝ }
+    ensures { λ g. ⌜ ((source : ℕ) → Walks plan parts write (takenStretches (lentJoin plan parts lengths places body first source) (was homes) ids positions slot k n) counters room g) ⌝ }
 {
     let w = lookups::width_at(plan, k);
     let mut a: u64 = 0;
@@ -127,9 +128,9 @@ fn copy_child(
 ) -> u8
     requires { ⌜ (first < 2 ^ 32) × (k < 32) × (isFlat (now plan) k ≡ true) ⌝ }
     requires { ⌜ (ids + (slot + n) ≤ length (now body)) × (positions + 4 * (slot + n) ≤ length (now body)) × (slot + n < 2 ^ 63) ⌝ }
-    requires { ⌜ (total ≡ sumOf (takesOf (λ r. homeBy (now homes) (now body) (ids + (slot + r))) k) n) × (end ≡ furthestOf (λ q. takesFrom (λ r. homeBy (now homes) (now body) (ids + (slot + r))) (λ r. entry 4 (now body) positions (slot + r)) k q + takesOf (λ r. homeBy (now homes) (now body) (ids + (slot + r))) k q) n) ⌝ }
-    requires { ⌜ (whole ≡ true → (walk : ℕ → ℕ → List ℕ → Out) (c : List ℕ) → stretches walk (takesFrom (λ r. homeBy (now homes) (now body) (ids + (slot + r))) (λ r. entry 4 (now body) positions (slot + r)) k) (takesOf (λ r. homeBy (now homes) (now body) (ids + (slot + r))) k) n c ≡ walk begin total c) ⌝ }
-    ensures { λ g. ⌜ ((source : ℕ) → Walks plan parts write (stretches (λ a m d. batchLeaf (lentJoin plan parts lengths places body first source) k a m d) (takesFrom (λ r. homeBy (was homes) (was body) (ids + (slot + r))) (λ r. entry 4 (was body) positions (slot + r)) k) (takesOf (λ r. homeBy (was homes) (was body) (ids + (slot + r))) k) n) counters room g) ⌝ }
+    requires { ⌜ (total ≡ sumOf (takenOf (now homes) (now body) ids slot k) n) × (end ≡ furthestOf (λ q. takenFrom (now homes) (now body) ids positions slot k q + takenOf (now homes) (now body) ids slot k q) n) ⌝ }
+    requires { ⌜ (whole ≡ true → (walk : ℕ → ℕ → List ℕ → Out) (c : List ℕ) → stretches walk (takenFrom (now homes) (now body) ids positions slot k) (takenOf (now homes) (now body) ids slot k) n c ≡ walk begin total c) ⌝ }
+    ensures { λ g. ⌜ ((source : ℕ) → Walks plan parts write (takenStretches (lentJoin plan parts lengths places body first source) (was homes) ids positions slot k n) counters room g) ⌝ }
 {
     if texts::is_text(plan, k) {
         return dense_texts::copy_texts(

@@ -10,11 +10,11 @@ ghost use Rattle.utils.specs.Pieces.{pieces};
 ghost use Rattle.walk.specs.State.{bytesOf, addRows};
 ghost use Rattle.walk.specs.Log.{Did};
 ghost use Rattle.leaf_walk.specs.Walks.{lentJoin};
-ghost use Rattle.batch.specs.Stretch.{sumOf, stretches};
-ghost use Rattle.batch.specs.Batch.{batchLeaf};
+ghost use Rattle.batch.specs.Stretch.{sumOf};
 ghost use Rattle.batch.specs.batch_walk.Plain.{isPlain};
 ghost use Rattle.batch.specs.batch_walk.Side.{furthestOf};
-ghost use Rattle.batch.specs.batch_walk.Fall.{homeBy, takesOf, takesFrom};
+ghost use Rattle.batch.specs.batch_walk.Fall.{homeBy};
+ghost use Rattle.batch.specs.batch_walk.Rows.{takenFrom, takenOf, takenStretches};
 use crate::homes;
 use crate::numbers;
 use array_data::lent_tables;
@@ -79,8 +79,8 @@ fn copy_taken(
     k: usize,
 )
     requires { ⌜ (ids + (slot + n) ≤ length (now body)) × (positions + 4 * (slot + n) ≤ length (now body)) × (slot + n < 2 ^ 63) ⌝ }
-    requires { ⌜ (to + w * sumOf (takesOf (λ r. homeBy (now homes) (now body) (ids + (slot + r))) k) n ≤ length (now room)) × ((r : ℕ) → r < n → at + w * (takesFrom (λ q. homeBy (now homes) (now body) (ids + (slot + q))) (λ q. entry 4 (now body) positions (slot + q)) k r + takesOf (λ q. homeBy (now homes) (now body) (ids + (slot + q))) k r) ≤ length (now body)) ⌝ }
-    ensures { λ _. ⌜ left room ≡ splice to (pieces (λ r. take (w * takesOf (λ q. homeBy (was homes) (was body) (ids + (slot + q))) k r) (drop (at + w * takesFrom (λ q. homeBy (was homes) (was body) (ids + (slot + q))) (λ q. entry 4 (was body) positions (slot + q)) k r) (was body))) n) (was room) ⌝ }
+    requires { ⌜ (to + w * sumOf (takenOf (now homes) (now body) ids slot k) n ≤ length (now room)) × ((r : ℕ) → r < n → at + w * (takenFrom (now homes) (now body) ids positions slot k r + takenOf (now homes) (now body) ids slot k r) ≤ length (now body)) ⌝ }
+    ensures { λ _. ⌜ left room ≡ splice to (pieces (λ r. take (w * takenOf (was homes) (was body) ids slot k r) (drop (at + w * takenFrom (was homes) (was body) ids positions slot k r) (was body))) n) (was room) ⌝ }
 {
     let mut to = to;
     let mut r: u64 = 0;
@@ -120,9 +120,9 @@ pub fn put_taken(
 ) -> bool
     requires { ⌜ (first < 2 ^ 32) × (k < 32) × (w ≡ bytesOf (now plan) k) × (isPlain (now plan) k ≡ true) ⌝ }
     requires { ⌜ (ids + (slot + n) ≤ length (now body)) × (positions + 4 * (slot + n) ≤ length (now body)) × (slot + n < 2 ^ 63) ⌝ }
-    requires { ⌜ (total ≡ sumOf (takesOf (λ r. homeBy (now homes) (now body) (ids + (slot + r))) k) n) × (end ≡ furthestOf (λ q. takesFrom (λ r. homeBy (now homes) (now body) (ids + (slot + r))) (λ r. entry 4 (now body) positions (slot + r)) k q + takesOf (λ r. homeBy (now homes) (now body) (ids + (slot + r))) k q) n) ⌝ }
+    requires { ⌜ (total ≡ sumOf (takenOf (now homes) (now body) ids slot k) n) × (end ≡ furthestOf (λ q. takenFrom (now homes) (now body) ids positions slot k q + takenOf (now homes) (now body) ids slot k q) n) ⌝ }
     ensures { λ r. ⌜ (r ≡ false → left room ≡ was room) ⌝ }
-    ensures { λ r. ⌜ (r ≡ true → (source : ℕ) → Did (was plan) (was parts) write (stretches (λ a m d. batchLeaf (lentJoin plan parts lengths places body first source) k a m d) (takesFrom (λ q. homeBy (was homes) (was body) (ids + (slot + q))) (λ q. entry 4 (was body) positions (slot + q)) k) (takesOf (λ q. homeBy (was homes) (was body) (ids + (slot + q))) k) n (was counters)) (was room) 0 (addRows k total (was counters)) (left room)) ⌝ }
+    ensures { λ r. ⌜ (r ≡ true → (source : ℕ) → Did (was plan) (was parts) write (takenStretches (lentJoin plan parts lengths places body first source) (was homes) ids positions slot k n (was counters)) (was room) 0 (addRows k total (was counters)) (left room)) ⌝ }
 {
     if !numbers::reaches(lengths, places, body, first, k, w, end) {
         return false;

@@ -10,7 +10,8 @@ ghost use Rattle.number.specs.Number.{entry};
 ghost use Rattle.walk.specs.Log.{Out};
 ghost use Rattle.batch.specs.Stretch.{stretch};
 ghost use Rattle.batch.specs.batch_walk.Side.{sideOf};
-ghost use Rattle.batch.specs.batch_walk.Fall.{Homed, homeBy, takesOf, takesFrom};
+ghost use Rattle.batch.specs.batch_walk.Fall.{Homed, homeBy};
+ghost use Rattle.batch.specs.batch_walk.Rows.{takenFrom, takenOf};
 use crate::side;
 use crate::side::Stretch;
 use walk::plan_words;
@@ -99,9 +100,9 @@ pub fn advance(
     m: u64,
 ) -> Stretch
     requires { ⌜ (ids + (slot + n) ≤ length (now body)) × (positions + 4 * (slot + n) ≤ length (now body)) × (slot + n < 2 ^ 63) × (from ≤ n) × (m ≤ from) ⌝ }
-    ensures { λ t. ⌜ ((walk : ℕ → ℕ → List ℕ → Out) (c : List ℕ) → stretch walk (takesFrom (λ r. homeBy (was homes) (was body) (ids + (slot + r))) (λ r. entry 4 (was body) positions (slot + r)) k) (takesOf (λ r. homeBy (was homes) (was body) (ids + (slot + r))) k) (n - from) from a m c ≡ stretch walk (takesFrom (λ r. homeBy (was homes) (was body) (ids + (slot + r))) (λ r. entry 4 (was body) positions (slot + r)) k) (takesOf (λ r. homeBy (was homes) (was body) (ids + (slot + r))) k) (n - t .next) (t .next) (t .a) (t .m) c) ⌝ }
+    ensures { λ t. ⌜ ((walk : ℕ → ℕ → List ℕ → Out) (c : List ℕ) → let f = stretch walk (takenFrom (was homes) (was body) ids positions slot k) (takenOf (was homes) (was body) ids slot k) in f (n - from) from a m c ≡ f (n - t .next) (t .next) (t .a) (t .m) c) ⌝ }
     ensures { λ t. ⌜ (t .next ≤ n) × (from ≤ t .next) ⌝ }
-    ensures { λ t. ⌜ ((t .next ≡ n → ⊥) → (sideOf (t .a) (t .m) (takesFrom (λ r. homeBy (was homes) (was body) (ids + (slot + r))) (λ r. entry 4 (was body) positions (slot + r)) k (t .next)) (takesOf (λ r. homeBy (was homes) (was body) (ids + (slot + r))) k (t .next)) ≡ 3)) ⌝ }
+    ensures { λ t. ⌜ ((t .next ≡ n → ⊥) → (sideOf (t .a) (t .m) (takenFrom (was homes) (was body) ids positions slot k (t .next)) (takenOf (was homes) (was body) ids slot k (t .next)) ≡ 3)) ⌝ }
 {
     let mut b = a;
     let mut p = m;

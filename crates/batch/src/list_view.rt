@@ -17,6 +17,7 @@ ghost use Rattle.batch.specs.Batch.{owned, batchLeaf, batchListView};
 ghost use Rattle.batch.specs.batch_walk.Plain.{isPlain, isFlat, reached};
 ghost use Rattle.batch.specs.batch_walk.Head.{Named, Rests, rowsOf};
 ghost use Rattle.batch.specs.batch_walk.Side.{furthestOf};
+ghost use Rattle.batch.specs.batch_walk.Rows.{listStretches};
 use crate::listed;
 use crate::numbers;
 use crate::side;
@@ -72,7 +73,7 @@ fn copy_number_stretches(
     requires { ⌜ (place (join [] [] [] (now places) [] first 0) i 3 + w * (slot + n) ≤ length (now body)) × (place (join [] [] [] (now places) [] first 0) i 5 + w * (slot + n) ≤ length (now body)) ⌝ }
     requires { ⌜ sumOf (λ q. entry w (now body) (place (join [] [] [] (now places) [] first 0) i 5) (slot + q)) n < 2 ^ 63 ⌝ }
     requires { ⌜ ((w ≡ 4 → ⊥) → w ≡ 8) ⌝ }
-    ensures { λ g. ⌜ ((source : ℕ) → let j = lentJoin plan parts lengths places body first source in Walks plan parts write (stretches (λ a m d. batchLeaf j (suc i) a m d) (λ r. entry w (was body) (place j i 3) (slot + r)) (λ r. entry w (was body) (place j i 5) (slot + r)) n) counters room g) ⌝ }
+    ensures { λ g. ⌜ ((source : ℕ) → let j = lentJoin plan parts lengths places body first source in Walks plan parts write (listStretches j (batchLeaf j) w i slot n) counters room g) ⌝ }
 {
     let offsets = lent_tables::place(places, first + i, 3);
     let sizes = lent_tables::place(places, first + i, 5);
@@ -172,7 +173,7 @@ fn copy_numbers(
     requires { ⌜ (place (join [] [] [] (now places) [] first 0) i 3 + w * (slot + n) ≤ length (now body)) × (place (join [] [] [] (now places) [] first 0) i 5 + w * (slot + n) ≤ length (now body)) ⌝ }
     requires { let p = place (join [] [] [] (now places) [] first 0) i 5 in ⌜ (sumOf (λ q. entry w (now body) p (slot + q)) n < 2 ^ 63) × (total ≡ sumOf (λ q. entry w (now body) p (slot + q)) n) ⌝ }
     requires { ⌜ ((w ≡ 4 → ⊥) → w ≡ 8) ⌝ }
-    ensures { λ g. ⌜ ((source : ℕ) → let j = lentJoin plan parts lengths places body first source in Walks plan parts write (stretches (λ a m d. batchLeaf j (suc i) a m d) (λ r. entry w (was body) (place j i 3) (slot + r)) (λ r. entry w (was body) (place j i 5) (slot + r)) n) counters room g) ⌝ }
+    ensures { λ g. ⌜ ((source : ℕ) → let j = lentJoin plan parts lengths places body first source in Walks plan parts write (listStretches j (batchLeaf j) w i slot n) counters room g) ⌝ }
 {
     let v = lookups::width_at(plan, i + 1);
     if none_refused(lengths, places, body, write, first, i, w, v, slot, n) {
@@ -241,7 +242,7 @@ pub fn copy_rows(
     requires { ⌜ (place (join [] [] [] (now places) [] first 0) i 3 + w * (slot + n) ≤ length (now body)) × (place (join [] [] [] (now places) [] first 0) i 5 + w * (slot + n) ≤ length (now body)) ⌝ }
     requires { let p = place (join [] [] [] (now places) [] first 0) i 5 in ⌜ (sumOf (λ q. entry w (now body) p (slot + q)) n < 2 ^ 63) × (total ≡ sumOf (λ q. entry w (now body) p (slot + q)) n) ⌝ }
     requires { ⌜ ((w ≡ 4 → ⊥) → w ≡ 8) ⌝ }
-    ensures { λ g. ⌜ ((source : ℕ) → let j = lentJoin plan parts lengths places body first source in Walks plan parts write (stretches (λ a m d. batchLeaf j (suc i) a m d) (λ r. entry w (was body) (place j i 3) (slot + r)) (λ r. entry w (was body) (place j i 5) (slot + r)) n) counters room g) ⌝ }
+    ensures { λ g. ⌜ ((source : ℕ) → let j = lentJoin plan parts lengths places body first source in Walks plan parts write (listStretches j (batchLeaf j) w i slot n) counters room g) ⌝ }
 {
     if texts::is_text(plan, i + 1) {
         return text_lists::copy_stretches(

@@ -9,9 +9,9 @@ ghost use Rattle.utils.specs.Pieces.{pieces};
 ghost use Rattle.walk.specs.State.{bytesOf, addRows};
 ghost use Rattle.walk.specs.Log.{Did};
 ghost use Rattle.leaf_walk.specs.Walks.{lentJoin};
-ghost use Rattle.batch.specs.Stretch.{sumOf, stretches};
-ghost use Rattle.batch.specs.Batch.{batchLeaf};
+ghost use Rattle.batch.specs.Stretch.{sumOf};
 ghost use Rattle.batch.specs.batch_walk.Plain.{isPlain};
+ghost use Rattle.batch.specs.batch_walk.Rows.{namedStretches};
 use crate::gather;
 use crate::numbers;
 use crate::sizes;
@@ -116,7 +116,7 @@ pub fn put_listed(
     requires { ⌜ ((w ≡ 4 → ⊥) → w ≡ 8) ⌝ }
     requires { ⌜ total ≡ sumOf (λ r. entry w (now body) sizes (slot + r)) n ⌝ }
     ensures { λ r. ⌜ (r ≡ false → left room ≡ was room) ⌝ }
-    ensures { λ r. ⌜ (r ≡ true → (source : ℕ) → Did (was plan) (was parts) write (stretches (λ a m d. batchLeaf (lentJoin plan parts lengths places body first source) k a m d) (λ q. entry w (was body) offsets (slot + q)) (λ q. entry w (was body) sizes (slot + q)) n (was counters)) (was room) 0 (addRows k total (was counters)) (left room)) ⌝ }
+    ensures { λ r. ⌜ (r ≡ true → (source : ℕ) → Did (was plan) (was parts) write (namedStretches (lentJoin plan parts lengths places body first source) w offsets sizes slot k n (was counters)) (was room) 0 (addRows k total (was counters)) (left room)) ⌝ }
 {
     if !is_shuffled(body, offsets, sizes, w, slot, n) {
         return false;

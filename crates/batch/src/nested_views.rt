@@ -4,7 +4,6 @@ ghost use mathlib.Core.Bool.{true, cond};
 ghost use mathlib.Core.List.{[]};
 ghost use Prim.Native.Nat.{ℕ, suc, _+_, _*_, _<_, _≤_, _^_};
 ghost use lib.ListN.{length};
-ghost use Rattle.clauses.specs.Slices.{was};
 ghost use Rattle.number.specs.Number.{entry};
 ghost use Rattle.walk.specs.State.{place};
 ghost use Rattle.leaf_walk.specs.Join.{join};
@@ -12,6 +11,7 @@ ghost use Rattle.leaf_walk.specs.Walks.{lentJoin, Walks};
 ghost use Rattle.batch.specs.Stretch.{sumOf, stretches};
 ghost use Rattle.batch.specs.Batch.{batchListView, batchNode, batchBelow};
 ghost use Rattle.batch.specs.batch_walk.Plain.{isFlat, isListed};
+ghost use Rattle.batch.specs.batch_walk.Rows.{listStretches};
 use crate::batch_walk;
 use crate::list_view;
 use crate::side;
@@ -40,7 +40,7 @@ fn copy_stretches(
     requires { ⌜ (place (join [] [] [] (now places) [] first 0) i 3 + w * (slot + n) ≤ length (now body)) × (place (join [] [] [] (now places) [] first 0) i 5 + w * (slot + n) ≤ length (now body)) ⌝ }
     requires { ⌜ sumOf (λ q. entry w (now body) (place (join [] [] [] (now places) [] first 0) i 5) (slot + q)) n < 2 ^ 63 ⌝ }
     requires { ⌜ ((w ≡ 4 → ⊥) → w ≡ 8) ⌝ }
-    ensures { λ g. ⌜ ((source : ℕ) → let j = lentJoin plan parts lengths places body first source in Walks plan parts write (stretches (λ a m d. batchNode j (batchBelow j depth) (suc i) a m d) (λ r. entry w (was body) (place j i 3) (slot + r)) (λ r. entry w (was body) (place j i 5) (slot + r)) n) counters room g) ⌝ }
+    ensures { λ g. ⌜ ((source : ℕ) → let j = lentJoin plan parts lengths places body first source in Walks plan parts write (listStretches j (batchNode j (batchBelow j depth)) w i slot n) counters room g) ⌝ }
 {
     let offsets = lent_tables::place(places, first + i, 3);
     let sizes = lent_tables::place(places, first + i, 5);

@@ -8,6 +8,7 @@ ghost use Rattle.number.specs.Number.{entry};
 ghost use Rattle.walk.specs.Log.{Out};
 ghost use Rattle.batch.specs.Stretch.{sumOf, stretch};
 ghost use Rattle.batch.specs.batch_walk.Side.{sideOf, nextStart, nextSize};
+ghost use Rattle.batch.specs.batch_walk.Rows.{entriesFrom};
 use nested_rows::lookups;
 
 // The child's rows a .. a + m - 1, and the parent's row that is looked at next.
@@ -82,7 +83,7 @@ pub fn advance(
     requires { ⌜ (offsets + w * (slot + n) ≤ length (now body)) × (sizes + w * (slot + n) ≤ length (now body)) × (slot + n < 2 ^ 63) × (from ≤ n) ⌝ }
     requires { ⌜ (m ≤ sumOf (λ q. entry w (now body) sizes (slot + q)) from) × (sumOf (λ q. entry w (now body) sizes (slot + q)) n < 2 ^ 63) ⌝ }
     requires { ⌜ ((w ≡ 4 → ⊥) → w ≡ 8) ⌝ }
-    ensures { λ t. ⌜ ((walk : ℕ → ℕ → List ℕ → Out) (c : List ℕ) → stretch walk (λ r. entry w (was body) offsets (slot + r)) (λ r. entry w (was body) sizes (slot + r)) (n - from) from a m c ≡ stretch walk (λ r. entry w (was body) offsets (slot + r)) (λ r. entry w (was body) sizes (slot + r)) (n - t .next) (t .next) (t .a) (t .m) c) ⌝ }
+    ensures { λ t. ⌜ ((walk : ℕ → ℕ → List ℕ → Out) (c : List ℕ) → let f = stretch walk (entriesFrom w (was body) offsets slot) (entriesFrom w (was body) sizes slot) in f (n - from) from a m c ≡ f (n - t .next) (t .next) (t .a) (t .m) c) ⌝ }
     ensures { λ t. ⌜ (t .next ≤ n) × (from ≤ t .next) ⌝ }
     ensures { λ t. ⌜ ((t .next ≡ n → ⊥) → sideOf (t .a) (t .m) (entry w (was body) offsets (slot + t .next)) (entry w (was body) sizes (slot + t .next)) ≡ 3) ⌝ }
 {

@@ -9,10 +9,10 @@ ghost use Rattle.number.specs.Number.{entry};
 ghost use Rattle.walk.specs.State.{bytesOf, addRows, setBytes, top};
 ghost use Rattle.walk.specs.Log.{Did};
 ghost use Rattle.leaf_walk.specs.Join.{join};
-ghost use Rattle.batch.specs.Stretch.{sumOf, stretches};
-ghost use Rattle.batch.specs.Batch.{batchLeaf};
+ghost use Rattle.batch.specs.Stretch.{sumOf};
 ghost use Rattle.batch.specs.batch_walk.Plain.{isText};
 ghost use Rattle.batch.specs.batch_walk.Texts.{charsOf, Rising};
+ghost use Rattle.batch.specs.batch_walk.Rows.{namedStretches};
 use crate::listed;
 use crate::numbers;
 use crate::sizes;
@@ -93,7 +93,7 @@ pub fn list_tried(
     requires { ⌜ (first < 2 ^ 32) × (k < 32) × (v ≡ bytesOf (now plan) k) × (isText (now plan) k ≡ true) ⌝ }
     requires { ⌜ (offsets + w * (slot + n) ≤ length (now body)) × (sizes + w * (slot + n) ≤ length (now body)) × (slot + n < 2 ^ 63) ⌝ }
     requires { ⌜ ((w ≡ 4 → ⊥) → w ≡ 8) ⌝ }
-    ensures { λ t. ⌜ ((t ≡ top → ⊥) → (parts : List ℕ) (source : ℕ) (room : List ℕ) → Did (was plan) parts false (stretches (λ a m d. batchLeaf (join (was plan) parts (was lengths) (was places) (was body) first source) k a m d) (λ q. entry w (was body) offsets (slot + q)) (λ q. entry w (was body) sizes (slot + q)) n (was counters)) room 0 (addRows k (sumOf (λ q. entry w (was body) sizes (slot + q)) n) (setBytes k t (was counters))) room) ⌝ }
+    ensures { λ t. ⌜ ((t ≡ top → ⊥) → (parts : List ℕ) (source : ℕ) (room : List ℕ) → Did (was plan) parts false (namedStretches (join (was plan) parts (was lengths) (was places) (was body) first source) w offsets sizes slot k n (was counters)) room 0 (addRows k (sumOf (λ q. entry w (was body) sizes (slot + q)) n) (setBytes k t (was counters))) room) ⌝ }
 {
     if !listed::is_shuffled(body, offsets, sizes, w, slot, n) {
         return u64::MAX;

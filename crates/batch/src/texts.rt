@@ -10,7 +10,7 @@ ghost use Rattle.walk.specs.State.{bytesOf, bytes};
 ghost use Rattle.walk.specs.Log.{put, applyIf};
 ghost use Rattle.walk.specs.Leaves.{putString, putExtended};
 ghost use Rattle.leaf_walk.specs.Join.{join};
-ghost use Rattle.leaf_walk.specs.Walks.{lentJoin, Walks};
+ghost use Rattle.leaf_walk.specs.Walks.{lentJoin, Walks, AnyLengths};
 ghost use Rattle.batch.specs.Stretch.{neverFalls};
 ghost use Rattle.batch.specs.Batch.{batchLeaf};
 ghost use Rattle.batch.specs.batch_walk.Plain.{isText, steadyString};
@@ -146,7 +146,7 @@ fn put_string(
 ) -> u8
     requires { ⌜ (first < 2 ^ 32) × (k < 32) × (from + w * (n + 1) ≤ length (now body)) × (bytes (now counters) k ≤ last) × (last < 2 ^ 63) ⌝ }
     requires { ⌜ ((w ≡ 4 → ⊥) → w ≡ 8) ⌝ }
-    ensures { λ r. ⌜ ((lengths : List ℕ) (source : ℕ) → Walks plan parts write (putString (join (was plan) (was parts) lengths (was places) (was body) first source) k w from n last lead) counters room r) ⌝ }
+    ensures { λ r. ⌜ AnyLengths plan parts places body first (λ j. Walks plan parts write (putString j k w from n last lead) counters room r) ⌝ }
 {
     let at = lent_tables::place(places, first + k, 5);
     let old = plan_words::bytes_of(counters, k);
@@ -201,7 +201,7 @@ fn put_extended(
 ) -> u8
     requires { ⌜ (first < 2 ^ 32) × (k < 32) × (from + w * (n + 1) ≤ length (now body)) ⌝ }
     requires { ⌜ ((w ≡ 4 → ⊥) → w ≡ 8) ⌝ }
-    ensures { λ r. ⌜ ((lengths : List ℕ) (source : ℕ) → Walks plan parts write (putExtended (join (was plan) (was parts) lengths (was places) (was body) first source) k w from n (extended w (was body) from n (bytes (was counters) k))) counters room r) ⌝ }
+    ensures { λ r. ⌜ AnyLengths plan parts places body first (λ j. Walks plan parts write (putExtended j k w from n (extended w (was body) from n (bytes (was counters) k))) counters room r) ⌝ }
 {
     let last = plan_words::bytes_of(counters, k);
     match variable_size::try_offsets(body, from, w, n as usize, last) {

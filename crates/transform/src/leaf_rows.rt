@@ -13,9 +13,9 @@ ghost use Rattle.walk.specs.Log.{Did};
 ghost use Rattle.walk.specs.Leaves.{putString};
 ghost use Rattle.walk.specs.Copy.{Walk, copyData, copyWalk};
 ghost use Rattle.leaf_walk.specs.Join.{join};
-ghost use Rattle.leaf_walk.specs.Walks.{lentJoin, Walks};
+ghost use Rattle.leaf_walk.specs.Walks.{Walks};
 ghost use Rattle.plan.specs.parts.Parts.{entrySize};
-ghost use Rattle.transform.specs.Answer.{lent, Settles};
+ghost use Rattle.transform.specs.Answer.{lent, Settles, Copies, CopiesAt};
 ghost use Rattle.transform.specs.leaf_rows.Leaf.{bitsIn};
 use crate::leaf_bits;
 use crate::leaf_counters;
@@ -209,7 +209,7 @@ fn write_text(
     requires { ⌜ (isString (codeOf (now plan) i) ≡ true) × (w ≡ bytesOf (now plan) i) ⌝ }
     requires { ⌜ (from ≡ place (join [] [] [] (now places) [] first 0) i 3 + w * slot) × (from + w * (n + 1) ≤ length (now body)) × (extended w (now body) from n (bytes (now counters) i) ≡ Fits last lead) ⌝ }
     requires { ⌜ bitsIn (join (now plan) [] [] (now places) (now body) first 0) i slot n ≡ true ⌝ }
-    ensures { λ r. ⌜ ((sources lengths : List ℕ) (source start : ℕ) → let j = join (was plan) (was parts) lengths (was places) (was body) first source in slot ≡ slotOf j i start n → Settles (lent (was plan) (was parts) sources lengths (was places) (was body)) (copyWalk j 8 i start n) counters room r) ⌝ }
+    ensures { λ r. ⌜ CopiesAt plan parts places body first i slot n counters room r ⌝ }
 {
     let at = lent_tables::place(places, first + i, 5);
     let old = lent_tables::at_u64(counters, 3 * i + 2);
@@ -256,7 +256,7 @@ fn copy_text(
     requires { ⌜ (length (now counters) ≡ 96) × (first < 2 ^ 32) × (i < 32) × (slot + n < 2 ^ 63) × (n ≡ 0 → ⊥) ⌝ }
     requires { ⌜ isString (codeOf (now plan) i) ≡ true ⌝ }
     requires { ⌜ bitsIn (join (now plan) [] [] (now places) (now body) first 0) i slot n ≡ true ⌝ }
-    ensures { λ r. ⌜ ((sources lengths : List ℕ) (source start : ℕ) → let j = join (was plan) (was parts) lengths (was places) (was body) first source in slot ≡ slotOf j i start n → Settles (lent (was plan) (was parts) sources lengths (was places) (was body)) (copyWalk j 8 i start n) counters room r) ⌝ }
+    ensures { λ r. ⌜ CopiesAt plan parts places body first i slot n counters room r ⌝ }
 {
     let w = lookups::width_at(plan, i);
     let at = lent_tables::place(places, first + i, 3);
@@ -304,7 +304,7 @@ pub fn copy_leaf_rows(
     n: u64,
 ) -> u8
     requires { ⌜ (length (now counters) ≡ 96) × (first < 2 ^ 32) × (source < 2 ^ 32) × (n ≡ 0 → ⊥) × (1 ≤ codeOf (now plan) 0) × (codeOf (now plan) 0 < 17) ⌝ }
-    ensures { λ r. ⌜ ((sources : List ℕ) → Settles (lent (was plan) (was parts) sources (was lengths) (was places) (was body)) (copyWalk (lentJoin plan parts lengths places body first source) 8 0 start n) counters room r) ⌝ }
+    ensures { λ r. ⌜ Copies plan parts lengths places body first source start n counters room r ⌝ }
 {
     let slot = lookups::slot_of(lengths, first, 0, start, n);
     if plan_words::FAR <= slot {

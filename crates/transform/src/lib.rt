@@ -19,19 +19,18 @@ mod tried_counters;
 mod tried_walks;
 
 ghost use mathlib.Core.Path.{_≡_};
-ghost use mathlib.Core.List.{List, []};
+ghost use mathlib.Core.List.{List};
 ghost use mathlib.Core.Bool.{true, _&&_};
 ghost use Prim.Native.Nat.{ℕ, _*_, _<_, _^_, min};
 ghost use lib.ListN.{length, getD};
 ghost use lib.Dec.{leb};
 ghost use Rattle.clauses.specs.Slices.{was, left};
 ghost use Rattle.walk.specs.State.{far};
-ghost use Rattle.walk.specs.Copy.{copyWalk};
 ghost use Rattle.walk.specs.Nulls.{nullWalk};
-ghost use Rattle.leaf_walk.specs.Walks.{lentJoin, nullJoin};
+ghost use Rattle.leaf_walk.specs.Walks.{nullJoin};
 ghost use Rattle.refinement.specs.orders.Sound.{walkable};
 ghost use Rattle.refinement.specs.orders.Order.{copyOrder, nullOrder};
-ghost use Rattle.transform.specs.Answer.{lent, Answers, Settles};
+ghost use Rattle.transform.specs.Answer.{lent, Answers, Settles, Copies};
 ghost use Rattle.transform.specs.numbers.Plan.{oneOfNumbers, firstOfNumbers, runsOfNumbers, listOfNumbers};
 use array_data::lent_tables;
 use walk::plan_words;
@@ -99,7 +98,7 @@ fn copy_nested(
     n: u64,
 ) -> u8
     requires { ⌜ (length (now counters) ≡ 96) × (first < 2 ^ 32) × (source < 2 ^ 32) × (walkable (now plan) (length (now room)) ≡ true) ⌝ }
-    ensures { λ r. ⌜ ((sources : List ℕ) → Settles (lent (was plan) (was parts) sources (was lengths) (was places) (was body)) (copyWalk (lentJoin plan parts lengths places body first source) 8 0 start n) counters room r) ⌝ }
+    ensures { λ r. ⌜ Copies plan parts lengths places body first source start n counters room r ⌝ }
 {
     if sparse_rows::is_sparse(plan) {
         return sparse_rows::copy_sparse(
@@ -161,7 +160,7 @@ fn copy_range(
     n: u64,
 ) -> u8
     requires { ⌜ (length (now counters) ≡ 96) × (first < 2 ^ 32) × (source < 2 ^ 32) × (way ≡ 1 → oneOfNumbers (now plan) ≡ true) × (way ≡ 3 → listOfNumbers (now plan) ≡ true) × (walkable (now plan) (length (now room)) ≡ true) ⌝ }
-    ensures { λ r. ⌜ ((sources : List ℕ) → Settles (lent (was plan) (was parts) sources (was lengths) (was places) (was body)) (copyWalk (lentJoin plan parts lengths places body first source) 8 0 start n) counters room r) ⌝ }
+    ensures { λ r. ⌜ Copies plan parts lengths places body first source start n counters room r ⌝ }
 {
     if way == null_ways::NUMBERS {
         return numbers::copy_numbers(

@@ -4,7 +4,7 @@ ghost use mathlib.Core.List.{List, []};
 ghost use mathlib.Core.Bool.{true, cond};
 ghost use Prim.Native.Nat.{ℕ, _+_, _<_, _^_};
 ghost use lib.ListN.{length};
-ghost use Rattle.clauses.specs.Slices.{was, left};
+ghost use Rattle.clauses.specs.Slices.{was};
 ghost use Rattle.columnar.specs.Test.{every};
 ghost use Rattle.utils.specs.Extension.{extended};
 ghost use Rattle.utils.specs.declared.Extended.the-variants.{Fits};
@@ -14,7 +14,7 @@ ghost use Rattle.leaf_walk.specs.Join.{join};
 ghost use Rattle.leaf_walk.specs.Walks.{lentJoin, Walks};
 ghost use Rattle.plan.specs.parts.Parts.{partWithin, partHolds, partsWithin, partsHold};
 ghost use Rattle.plan.specs.grounds.Verdict.{verdict};
-ghost use Rattle.transform.specs.Answer.{lent, Settles};
+ghost use Rattle.transform.specs.Answer.{lent, Settles, CopiesAny};
 ghost use Rattle.transform.specs.leaf_rows.Leaf.{bitsIn};
 ghost use Rattle.transform.specs.list_rows.Stretch.{RowsIn, ItemsIn, Reaches};
 ghost use Rattle.transform.specs.numbers.Plan.{listOfNumbers};
@@ -319,7 +319,7 @@ pub fn copy_list_rows(
     n: u64,
 ) -> u8
     requires { ⌜ (length (now counters) ≡ 96) × (first < 2 ^ 32) × (listOfNumbers (now plan) ≡ true) × (n ≡ 0 → ⊥) ⌝ }
-    ensures { λ r. ⌜ ((sources : List ℕ) (source : ℕ) → Settles (lent (was plan) (was parts) sources (was lengths) (was places) (was body)) (copyWalk (lentJoin plan parts lengths places body first source) 8 0 start n) counters room r) ⌝ }
+    ensures { λ r. ⌜ CopiesAny plan parts lengths places body first start n counters room r ⌝ }
 {
     let slot = lookups::slot_of(lengths, first, 0, start, n);
     if plan_words::FAR <= slot {

@@ -8,16 +8,16 @@ ghost use lib.Dec.{ltb};
 ghost use Rattle.clauses.specs.Slices.{was, left};
 ghost use Rattle.columnar.specs.Test.{every};
 ghost use Rattle.schema.specs.formats.Code.{isFixed};
-ghost use Rattle.walk.specs.State.{codeOf, dictionaryOf, rows, place, slotOf};
+ghost use Rattle.walk.specs.State.{codeOf, dictionaryOf, rows, place};
 ghost use Rattle.walk.specs.Log.{Did, put, applyIf, startOf};
 ghost use Rattle.walk.specs.Leaves.{copyMask};
-ghost use Rattle.walk.specs.Copy.{Walk, copyData, copyWalk};
+ghost use Rattle.walk.specs.Copy.{Walk, copyData};
 ghost use Rattle.leaf_walk.specs.Join.{join};
-ghost use Rattle.leaf_walk.specs.Walks.{lentJoin, Walks};
+ghost use Rattle.leaf_walk.specs.Walks.{Walks};
 ghost use Rattle.plan.specs.parts.Parts.{copied, entrySize, inRoom, partWithin, partHolds, partsWithin, partsHold};
 ghost use Rattle.plan.specs.grounds.Verdict.{verdict};
 ghost use Rattle.refinement.specs.orders.Sound.{planSound, walkable};
-ghost use Rattle.transform.specs.Answer.{lent, Settles};
+ghost use Rattle.transform.specs.Answer.{CopiesAny, CopiesAt};
 ghost use Rattle.transform.specs.leaf_rows.Leaf.{bitsIn};
 ghost use Rattle.transform.specs.numbers.Plan.{oneOfNumbers, firstOfNumbers};
 use crate::leaf_bits;
@@ -225,7 +225,7 @@ fn copy_slots(
 ) -> u8
     requires { ⌜ (length (now counters) ≡ 96) × (first < 2 ^ 32) × (slot + n < 2 ^ 63) × (oneOfNumbers (now plan) ≡ true) ⌝ }
     requires { ⌜ bitsIn (join (now plan) [] [] (now places) (now body) first 0) 0 slot n ≡ true ⌝ }
-    ensures { λ r. ⌜ ((sources lengths : List ℕ) (source start : ℕ) → let j = join (was plan) (was parts) lengths (was places) (was body) first source in slot ≡ slotOf j 0 start n → Settles (lent (was plan) (was parts) sources lengths (was places) (was body)) (copyWalk j 8 0 start n) counters room r) ⌝ }
+    ensures { λ r. ⌜ CopiesAt plan parts places body first 0 slot n counters room r ⌝ }
 {
     let w = number_size(plan_words::code_of(plan, 0));
     let at = lent_tables::place(places, first + 0, 3);
@@ -258,7 +258,7 @@ pub fn copy_numbers(
     n: u64,
 ) -> u8
     requires { ⌜ (length (now counters) ≡ 96) × (first < 2 ^ 32) × (oneOfNumbers (now plan) ≡ true) ⌝ }
-    ensures { λ r. ⌜ ((sources : List ℕ) (source : ℕ) → Settles (lent (was plan) (was parts) sources (was lengths) (was places) (was body)) (copyWalk (lentJoin plan parts lengths places body first source) 8 0 start n) counters room r) ⌝ }
+    ensures { λ r. ⌜ CopiesAny plan parts lengths places body first start n counters room r ⌝ }
 {
     let slot = lookups::slot_of(lengths, first, 0, start, n);
     if plan_words::FAR <= slot {

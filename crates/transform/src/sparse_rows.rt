@@ -6,7 +6,6 @@ ghost use Prim.Native.Nat.{ℕ, _+_, _*_, _<_, _≤_, _^_};
 ghost use lib.ListN.{length};
 ghost use Rattle.clauses.specs.Slices.{was, left};
 ghost use Rattle.columnar.specs.Test.{every};
-ghost use Rattle.schema.specs.formats.Code.{isFixed};
 ghost use Rattle.walk.specs.State.{codeOf, rows, grown, place};
 ghost use Rattle.walk.specs.Log.{Did};
 ghost use Rattle.walk.specs.Leaves.{copyMask, copyNumbers};
@@ -15,7 +14,7 @@ ghost use Rattle.leaf_walk.specs.Join.{join};
 ghost use Rattle.leaf_walk.specs.Walks.{lentJoin, AnyLengths, Walks};
 ghost use Rattle.plan.specs.parts.Parts.{nodesOf, entrySize, partWithin, partHolds, partsWithin, partsHold};
 ghost use Rattle.plan.specs.grounds.Verdict.{verdict, worseOf};
-ghost use Rattle.transform.specs.Answer.{lent, Settles};
+ghost use Rattle.transform.specs.Answer.{CopiesAny};
 ghost use Rattle.transform.specs.leaf_rows.Leaf.{bitsIn};
 ghost use Rattle.transform.specs.numbers.Plan.{numbersAt};
 ghost use Rattle.transform.specs.sparse_rows.Sparse.{Sparse, fieldIn, fieldsIn};
@@ -295,7 +294,7 @@ pub fn copy_sparse(
     n: u64,
 ) -> u8
     requires { ⌜ (length (now counters) ≡ 96) × (first < 2 ^ 32) × Sparse (now plan) ⌝ }
-    ensures { λ r. ⌜ ((sources : List ℕ) (source : ℕ) → Settles (lent (was plan) (was parts) sources (was lengths) (was places) (was body)) (copyWalk (lentJoin plan parts lengths places body first source) 8 0 start n) counters room r) ⌝ }
+    ensures { λ r. ⌜ CopiesAny plan parts lengths places body first start n counters room r ⌝ }
 {
     let slot = lookups::slot_of(lengths, first, 0, start, n);
     if plan_words::FAR <= slot {

@@ -1,12 +1,9 @@
 // Copies by stretches (`batch::batch_walk`): a type that they are written for, in parts that rise. What they do not answer, the walk of a copy does.
 ghost use mathlib.Core.Path.{_≡_};
-ghost use mathlib.Core.List.{List};
-ghost use Prim.Native.Nat.{ℕ, _<_, _^_};
+ghost use Prim.Native.Nat.{_<_, _^_};
 ghost use lib.ListN.{length};
 ghost use Rattle.clauses.specs.Slices.{was, left};
-ghost use Rattle.walk.specs.Copy.{copyWalk};
-ghost use Rattle.leaf_walk.specs.Walks.{lentJoin};
-ghost use Rattle.transform.specs.Answer.{lent, Settles};
+ghost use Rattle.transform.specs.Answer.{CopiesAny};
 use batch::rise;
 use plan::grounds;
 
@@ -28,7 +25,7 @@ pub fn copy_stretches(
 ) -> u8
     requires { ⌜ (length (now counters) ≡ 96) × (first < 2 ^ 32) ⌝ }
     ensures { λ r. ⌜ (r ≡ 255 → (left counters ≡ was counters) × (left room ≡ was room)) ⌝ }
-    ensures { λ r. ⌜ ((r ≡ 255 → ⊥) → (sources : List ℕ) (source : ℕ) → Settles (lent (was plan) (was parts) sources (was lengths) (was places) (was body)) (copyWalk (lentJoin plan parts lengths places body first source) 8 0 start n) counters room r) ⌝ }
+    ensures { λ r. ⌜ ((r ≡ 255 → ⊥) → CopiesAny plan parts lengths places body first start n counters room r) ⌝ }
 {
     if !batch::batch_walk::is_stretched(plan) {
         return UNTOLD;

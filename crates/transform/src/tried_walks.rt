@@ -2,14 +2,13 @@
 ghost use mathlib.Core.Path.{_≡_};
 ghost use mathlib.Core.List.{List};
 ghost use mathlib.Core.Bool.{true};
-ghost use Prim.Native.Nat.{_<_, _^_};
+ghost use Prim.Native.Nat.{ℕ, _<_, _^_};
 ghost use lib.ListN.{length};
 ghost use Rattle.clauses.specs.Slices.{was};
-ghost use Rattle.walk.specs.Copy.{copyWalk};
 ghost use Rattle.walk.specs.Nulls.{nullWalk};
-ghost use Rattle.leaf_walk.specs.Walks.{lentJoin, nullJoin};
+ghost use Rattle.leaf_walk.specs.Walks.{nullJoin};
 ghost use Rattle.refinement.specs.orders.Sound.{walkable};
-ghost use Rattle.transform.specs.Answer.{lent, Settles};
+ghost use Rattle.transform.specs.Answer.{lent, Settles, Copies};
 use crate::tried_counters;
 use plan::grounds;
 use walk::plan_words;
@@ -29,7 +28,7 @@ pub fn copy_rows(
     n: u64,
 ) -> u8
     requires { ⌜ (length (now counters) ≡ 96) × (first < 2 ^ 32) × (source < 2 ^ 32) × (walkable (now plan) (length (now room)) ≡ true) ⌝ }
-    ensures { λ r. ⌜ ((sources : List ℕ) → Settles (lent (was plan) (was parts) sources (was lengths) (was places) (was body)) (copyWalk (lentJoin plan parts lengths places body first source) 8 0 start n) counters room r) ⌝ }
+    ensures { λ r. ⌜ Copies plan parts lengths places body first source start n counters room r ⌝ }
 {
     let nodes = plan::parts::node_count(plan);
     let mut tally = [0u64; plan_words::COUNTERS];
