@@ -1,6 +1,6 @@
 // The two orders on lent memory: each is tried first, on a copy of the counters, and made where no ground is found. A refused one changes nothing.
 // A copy is tried without a look at validity bits, and counts its nulls where it is made. Of a leaf (`leaf_rows`, `leaf_nulls`) and a list of numbers
-// (`list_rows`, `list_nulls`) and of a copy of a sparse union of numbers (`sparse_rows`) no walk is tried; a type that is one node of numbers goes a shorter way still (`numbers`, `number_nulls`).
+// (`list_rows`, `list_nulls`) and of a sparse union of numbers (`sparse_rows`, `sparse_nulls`) no walk is tried; a type that is one node of numbers goes a shorter way still (`numbers`, `number_nulls`).
 // Follows `try_extend` and `try_extend_nulls` of arrow-data 60.1.0 src/transform/mod.rs, Apache-2.0; see NOTICE.
 mod leaf_bits;
 mod leaf_counters;
@@ -12,6 +12,7 @@ mod null_ways;
 mod number_nulls;
 mod numbers;
 mod run_nulls;
+mod sparse_nulls;
 mod sparse_rows;
 mod stretches;
 mod tried_counters;
@@ -278,7 +279,7 @@ pub fn at_most_far(n: u64) -> u64
     n
 }
 
-// The same by the kind of the type: nulls of a leaf, of run ends over numbers and of a list of numbers are not tried first.
+// The same by the kind of the type: nulls of a leaf, of run ends over numbers and of a list or a sparse union of numbers are not tried first.
 fn add_null_range(
     plan: &[u64],
     parts: &[u64],
@@ -301,6 +302,9 @@ fn add_null_range(
     }
     if (n != 0) & schema::formats::within(plan_words::code_of(plan, 0), 1, 16) {
         return leaf_nulls::add_leaf_nulls(plan, parts, counters, room, n);
+    }
+    if (n != 0) & sparse_rows::is_sparse(plan) {
+        return sparse_nulls::add_sparse_nulls(plan, parts, counters, room, n);
     }
     tried_walks::add_nulls(plan, parts, counters, room, n)
 }

@@ -66,8 +66,8 @@ fn put_end(plan: &[u64], parts: &[u64], counters: &mut [u64], room: &mut [u8], w
     counters[2] = 0;
 }
 
-// The nulls of the run-end node counted, if it keeps them.
-fn count_nulls(plan: &[u64], counters: &mut [u64], n: u64)
+// The nulls of the first node counted, if it keeps them.
+pub fn count_nulls(plan: &[u64], counters: &mut [u64], n: u64)
     requires { ⌜ length (now counters) ≡ 96 ⌝ }
     ensures { λ _. ⌜ ((parts room : List ℕ) → Did (was plan) parts true (countNulls (join (was plan) parts [] [] [] 0 0) 0 n (was counters)) room 0 (left counters) room) ⌝ }
 {

@@ -105,7 +105,7 @@ fn field_in(
 }
 
 // The worse of two grounds: 14, 13 or 0.
-fn worse(a: u8, b: u8) -> u8
+pub fn worse(a: u8, b: u8) -> u8
     ensures { λ r. ⌜ r ≡ worseOf a b ⌝ }
 {
     if a < b {
@@ -115,7 +115,7 @@ fn worse(a: u8, b: u8) -> u8
 }
 
 // The part of r ids.
-fn ids_ground(plan: &[u64], parts: &[u64], m: usize, r: u64) -> u8
+pub fn ids_ground(plan: &[u64], parts: &[u64], m: usize, r: u64) -> u8
     requires { ⌜ codeOf (now plan) 0 ≡ 21 ⌝ }
     ensures { λ g. ⌜ ((counters : List ℕ) → rows counters 0 ≡ r → g ≡ verdict (every (λ b. partWithin (was plan) (was parts) m 0 b) 3) (every (λ b. partHolds (was plan) counters (was parts) 0 b) 3)) ⌝ }
 {

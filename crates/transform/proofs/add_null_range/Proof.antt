@@ -86,8 +86,15 @@ same-length-8 c = search needs
 returns-4 : tie.Need-returns-4
 returns-4 c = c .before .before .before .before .add-leaf-nulls .ensures
 
-add-nulls-requires : tie.Need-add-nulls-requires
-add-nulls-requires c κs = (c .before .before .before .before .before .before .before .before .before .before .before .before .before .before .pre .0, c .before .before .before .before .before .before .before .before .before .before .before .before .before .before .pre .4)
+is-sparse-requires : tie.Need-is-sparse-requires
+is-sparse-requires c κs = search needs
+
+add-sparse-nulls-requires : tie.Need-add-sparse-nulls-requires
+add-sparse-nulls-requires c κs =
+    let a = c .before .before .before .before .before .before .before .before .before .before .before .before .before .before .before .before .args in
+    let some = not (eqb (a .n) 0) in
+    let sparse = c .before .before .before .is-sparse in
+    (c .before .before .before .before .before .before .before .before .before .before .before .before .before .before .before .before .pre .0, eqb-false (a .n) 0 (not-true (eqb (a .n) 0) (and-left some (sparse .result) (c .before .before .if5 .taken))), sparse .ensures (and-right some (sparse .result) (c .before .before .if5 .taken)))
 
 same-length-9 : tie.Need-same-length-9
 same-length-9 c = search needs
@@ -96,7 +103,19 @@ same-length-10 : tie.Need-same-length-10
 same-length-10 c = search needs
 
 returns-5 : tie.Need-returns-5
-returns-5 c = c .before .before .before .before .add-nulls .ensures
+returns-5 c = c .before .before .before .before .add-sparse-nulls .ensures
+
+add-nulls-requires : tie.Need-add-nulls-requires
+add-nulls-requires c κs = (c .before .before .before .before .before .before .before .before .before .before .before .before .before .before .before .before .pre .0, c .before .before .before .before .before .before .before .before .before .before .before .before .before .before .before .before .pre .4)
+
+same-length-11 : tie.Need-same-length-11
+same-length-11 c = search needs
+
+same-length-12 : tie.Need-same-length-12
+same-length-12 c = search needs
+
+returns-6 : tie.Need-returns-6
+returns-6 c = c .before .before .before .before .add-nulls .ensures
 
 pub add-null-range-spec : {M : Type 1} → statement M
-add-null-range-spec = tie.close (tie.spec add-number-nulls-requires same-length same-length-2 returns at-u64-requires add-run-nulls-requires same-length-3 same-length-4 returns-2 add-list-nulls-requires same-length-5 same-length-6 returns-3 code-of-requires within-requires add-leaf-nulls-requires same-length-7 same-length-8 returns-4 add-nulls-requires same-length-9 same-length-10 returns-5)
+add-null-range-spec = tie.close (tie.spec add-number-nulls-requires same-length same-length-2 returns at-u64-requires add-run-nulls-requires same-length-3 same-length-4 returns-2 add-list-nulls-requires same-length-5 same-length-6 returns-3 code-of-requires within-requires add-leaf-nulls-requires same-length-7 same-length-8 returns-4 is-sparse-requires add-sparse-nulls-requires same-length-9 same-length-10 returns-5 add-nulls-requires same-length-11 same-length-12 returns-6)

@@ -145,7 +145,7 @@ pub record Tried (x : Join) (row n end m k : ℕ) (c room : List ℕ) : Type 0 w
   pub raised : (j : ℕ) → k ≤ j → j < end → rows counters j ≡ grown (rows c j) n
 
 -- field k, and then those behind it
-raised-step : (k n end : ℕ) (c d t : List ℕ) → rows d k ≡ grown (rows c k) n → ((j : ℕ) → (j ≡ k → ⊥) → rows d j ≡ rows c j) → ((j : ℕ) → j < suc k → rows t j ≡ rows d j)
+pub raised-step : (k n end : ℕ) (c d t : List ℕ) → rows d k ≡ grown (rows c k) n → ((j : ℕ) → (j ≡ k → ⊥) → rows d j ≡ rows c j) → ((j : ℕ) → j < suc k → rows t j ≡ rows d j)
     → ((j : ℕ) → suc k ≤ j → j < end → rows t j ≡ grown (rows d j) n) → (j : ℕ) → k ≤ j → j < end → rows t j ≡ grown (rows c j) n
 raised-step k n end c d t a b f g j l h = go (eqb j k) refl
   where

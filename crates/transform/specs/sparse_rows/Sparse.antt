@@ -4,7 +4,7 @@ use mathlib.Core.Bool.{Bool, true, cond, _&&_}
 use mathlib.Core.List.{List}
 use Prim.Native.Nat.{ℕ, zero, suc, _≤_, _<_}
 use lib.Dec.{ltb}
-use Rattle.walk.specs.State.{Join, codeOf, dictionaryOf, endOf, place, far, slotOf, rowsIn}
+use Rattle.walk.specs.State.{Join, codeOf, dictionaryOf, endOf, rows, grown, place, far, slotOf, rowsIn}
 use Rattle.plan.specs.parts.Parts.{nodesOf, entrySize}
 use Rattle.transform.specs.leaf_rows.Leaf.{bitsIn}
 use Rattle.transform.specs.numbers.Plan.{numbersAt}
@@ -26,3 +26,7 @@ fieldIn x k row n =
 unfoldable pub fieldsIn : Join → ℕ → ℕ → ℕ → ℕ → ℕ → Bool
 fieldsIn x row n end zero k = true
 fieldsIn x row n end (suc m) k = cond (ltb k end) (fieldIn x k row n && fieldsIn x row n end m (suc k)) true
+
+-- t has n rows more than c at each node below `end`
+abbrev pub Raised : List ℕ → ℕ → ℕ → List ℕ → Type 0
+Raised c n end t = (j : ℕ) → j < end → rows t j ≡ grown (rows c j) n
