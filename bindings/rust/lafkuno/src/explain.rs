@@ -184,7 +184,8 @@ impl<'a> Source<'a> {
             let node = &self.nodes[k];
             let [.., children, _] = entry(self.x.schema, node.at);
             let [length, offset] = [0, 1].map(|j| self.x.lengths.get(2 * node.at + j).map_or(0, |n| *n as i64));
-            let views = if self.ty(k).kind() == Kind::Views { self.place(k, 8) } else { 0 };
+            // by the format alone: a view that says it has a dictionary is counted too
+            let views = if matches!(self.ty(k).format.as_str(), "vz" | "vu") { self.place(k, 8) } else { 0 };
             let found = if 8 < node.depth {
                 format!("depth {}, and 8 is taken", node.depth)
             } else if self.rows(k).is_none() {
