@@ -19,7 +19,8 @@ HEAD = re.compile(
 )
 BINDING = re.compile(r"(?<![^\s({])(" + WORD + r")(?= :(?: |$))")
 USE = re.compile(r"\buse ([^\s;{]+)\.\{([^}]*)\}")
-TOKEN = re.compile(r"--[^\n]*|\"(?:[^\"\\]|\\.)*\"|" + WORD)
+# a path of modules keeps its names
+TOKEN = re.compile(r"--[^\n]*|\"(?:[^\"\\]|\\.)*\"|\buse [^\s;{]+|\bRattle\.[^\s;{]+(?=\.\{)|" + WORD)
 GHOST = re.compile(r"ghost\s+use\b[^;]*;")
 CLAUSE = re.compile(r"\b(?:requires|ensures)\*?\s*(?:\w+\s*)?\{|\bghost\s*(?:\w+\s*(?::\s*|=\s*))?\{")
 RUST_COMMENT = re.compile(r"//[^\n]*")
@@ -27,6 +28,9 @@ SPAN = re.compile(r"`[^`\n]+`")
 CAMEL = re.compile(r"[a-z0-9][A-Z]")
 # an old name and the spelling that keeps it apart from another
 CLASHES = {"batchWalk": "batch_walk_of", "leafRow": "leaf_row_of", "openWalk": "open_walk_of", "reclaimWalk": "reclaim_walk_of", "rowPlan": "row_plan_of", "nullCount": "null_count_of", "same-list": "same_list_lem", "is-nan": "is_nan_lem"}
+
+# words that are tactics, and may be no name in a clause or in specs/
+TACTICS = {"ground": "refusal"}
 
 
 def read(path):
@@ -101,6 +105,7 @@ def table():
     for it in out:
         if "-" in it and out[it] in taken and it not in CLASHES:
             out[it] += "_lem"
+    out.update(TACTICS)
     return out
 
 
@@ -126,7 +131,7 @@ class Turner:
 
         def one(m):
             it = m[0]
-            if it.startswith('"'):
+            if it.startswith(('"', "use ", "Rattle.")):
                 return it
             if it.startswith("--") and (len(it) == 2 or it[2] in " -"):
                 return self.prose(it)
@@ -148,6 +153,8 @@ class Turner:
         return out
 
     def prose(self, text):
+        if not text.strip():
+            return text
         text = SPAN.sub(lambda m: TOKEN.sub(lambda w: self.names.get(w[0], w[0]), m[0]) if "\n" not in m[0] else m[0], text)
         # outside code spans only what reads as no plain word
         return re.sub(r"(?<![\w./`-])([a-z]\w*[a-z0-9][A-Z]\w*)(?![\w./-])", lambda m: self.names.get(m[1], m[1]), text)
@@ -190,18 +197,23 @@ class Turner:
                 parts.append(TOKEN.sub(lambda m: m[0] if m[0] in lent else self.names.get(m[0], m[0]), piece))
             at = b
         parts.append(text[at:])
+        parts = [self.tactics(it) for it in parts]
         words = set(re.findall(WORD, ghost))
         for old, new in turned.items():
             if new in words or new in params:
                 self.clashes[(old, new)].append(where)
         return "".join(parts)
 
+    def tactics(self, text):
+        """A field or a parameter of the source that a clause would call by a tactic's word."""
+        return re.sub(r"//[^\n]*|\b(" + "|".join(TACTICS) + r")\b", lambda m: TACTICS[m[1]] if m[1] else m[0], text)
+
     def edit(self, text):
         out = []
         for line in text.split("\n"):
             head, sep, rest = line.partition(": ")
             if sep and head in ("old", "new"):
-                rest = re.sub(WORD, lambda m: self.names.get(m[0], m[0]) if "-" in m[0] or CAMEL.search(m[0]) else m[0], rest)
+                rest = re.sub(WORD, lambda m: self.names.get(m[0], m[0]) if "-" in m[0] or CAMEL.search(m[0]) or m[0] in TACTICS else m[0], rest)
             out.append(head + sep + rest)
         return "\n".join(out)
 

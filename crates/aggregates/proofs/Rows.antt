@@ -16,7 +16,7 @@ use Rattle.columns.specs.Grounds.{ceiling, small_body, within_ceilings, obeys, c
 use Rattle.columns.proofs.Grounds.{within_low}
 use Rattle.columns.proofs.Answers.{sum_fits}
 use Rattle.source_rules.proofs.From.{length_from, offset_from}
-use Rattle.run_ends_lem.specs.declared.PhysicalRun.{PhysicalRun}
+use Rattle.run_ends.specs.declared.PhysicalRun.{PhysicalRun}
 use Rattle.slot_reader.specs.declared.run.RowRun.{RowRun}
 use Rattle.slot_reader.specs.declared.run.RowRun.TheVariants as answer
 use Rattle.aggregates.proofs.stretches.Stretch.{ends_fit, ends_held, stretch_run, stretch_some}

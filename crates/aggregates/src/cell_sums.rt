@@ -14,7 +14,7 @@ use crate::{blocks, cells, patterns, stretches, tally};
 use slot_reader::run::RowRun;
 
 // A column of whole numbers: of plain rows, or of runs, whose values then stand from `skip` on in the cells.
-#[derive(Drop)]
+#[derive(Clone, Copy)]
 pub struct Numbers {
     pub runs: bool,
     pub ends: Ends,
@@ -23,14 +23,14 @@ pub struct Numbers {
 }
 
 // A cell that the rows have up to `until`.
-#[derive(Drop)]
+#[derive(Clone, Copy)]
 struct Stretch {
     cell: Cell,
     until: u64,
 }
 
 // The tallies of two columns.
-#[derive(Drop)]
+#[derive(Clone, Copy)]
 pub struct Tallies {
     pub first: Tally,
     pub second: Tally,

@@ -13,7 +13,7 @@ use array_data::entries;
 
 // Where a node's rows stand in the body: numbers of `width` bytes from `start` on, below zero where the pattern is above `top`; where it is
 // masked, with a validity map from `mask` on.
-#[derive(Drop)]
+#[derive(Clone, Copy)]
 pub struct Cells {
     pub width: u8,
     pub top: u64,

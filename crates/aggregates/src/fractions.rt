@@ -2,7 +2,7 @@
 ghost use Rattle.std.specs.Prelude.{◌≡◌, ◌<◌, ◌≤◌, pos, ◌≢◌, unsigned_abs};
 ghost use Rattle.aggregates.specs.fractions.Lowest.{gcd_of, is_minus, differ, lowest_of, fraction_of};
 
-#[derive(Drop)]
+#[derive(Clone, Copy)]
 pub struct Fraction {
     pub minus: bool,
     pub over: u64,

@@ -1,4 +1,5 @@
 // Count, exact sum and mean of a whole-number column's rows, and total over total of two columns' rows (02, W8).
+#![tactic(auto)]
 pub mod blocks;
 pub mod cell_sums;
 pub mod cells;
@@ -24,7 +25,7 @@ use crate::tally::{Tally, Total};
 use array_data::entries;
 
 // The rows that are not null, their sum, and the mean in lowest terms.
-#[derive(Drop)]
+#[derive(Clone, Copy)]
 pub struct MeanReport {
     pub count: u64,
     pub sum: i64,
@@ -33,14 +34,14 @@ pub struct MeanReport {
     pub under: u64,
 }
 
-#[derive(Drop)]
+#[derive(Clone, Copy)]
 pub enum MeanAnswer {
     Done(MeanReport),
     Refused(u8),
 }
 
 // The rows that both columns have, the two totals, and the first over the second in lowest terms.
-#[derive(Drop)]
+#[derive(Clone, Copy)]
 pub struct RatioReport {
     pub count: u64,
     pub first: i64,
@@ -50,14 +51,14 @@ pub struct RatioReport {
     pub under: u64,
 }
 
-#[derive(Drop)]
+#[derive(Clone, Copy)]
 pub enum RatioAnswer {
     Done(RatioReport),
     Refused(u8),
 }
 
 // What a column's nodes say: whether it has runs, the code of its whole numbers (0: it has none), and the bytes of its run ends.
-#[derive(Drop)]
+#[derive(Clone, Copy)]
 struct Shape {
     runs: bool,
     code: u8,
@@ -195,9 +196,9 @@ pub fn mean(
 ) -> MeanAnswer
     ensures { result ≡ mean_report (was formats) (was schema) (tables_of (was lengths) (was places) (was buffers) (was body)) first n start end }
 {
-    let ground = columns::column_ground(formats, schema, lengths, places, buffers, body, first, n);
-    if ground != 0 {
-        return MeanAnswer::Refused(ground);
+    let refusal = columns::column_ground(formats, schema, lengths, places, buffers, body, first, n);
+    if refusal != 0 {
+        return MeanAnswer::Refused(refusal);
     }
     if !columns::column_pair::is_range(lengths, first, start, end) {
         return MeanAnswer::Refused(2);
@@ -256,11 +257,11 @@ pub fn ratio(
 ) -> RatioAnswer
     ensures { result ≡ ratio_report (was formats) (was schema) (tables_of (was lengths) (was places) (was buffers) (was body)) first_a n_a first_b n_b start end }
 {
-    let ground = columns::column_pair::pair_ground(
+    let refusal = columns::column_pair::pair_ground(
         formats, schema, lengths, places, buffers, body, first_a, n_a, first_b, n_b,
     );
-    if ground != 0 {
-        return RatioAnswer::Refused(ground);
+    if refusal != 0 {
+        return RatioAnswer::Refused(refusal);
     }
     if !columns::column_pair::is_range(lengths, first_a, start, end) {
         return RatioAnswer::Refused(2);

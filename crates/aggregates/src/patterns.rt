@@ -8,7 +8,7 @@ ghost use Rattle.aggregates.specs.patterns.Parts.{block_rows, Sized, pattern_in,
 pub const BLOCK: u64 = 1048576;
 
 // The sums of a block: how many numbers count, their lower and upper halves, and how many have the top bit.
-#[derive(Drop)]
+#[derive(Clone, Copy)]
 pub struct Part {
     pub count: u64,
     pub low: u64,

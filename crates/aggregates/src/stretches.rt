@@ -11,7 +11,7 @@ use slot_reader::run;
 use slot_reader::run::{ColumnRow, RowRun};
 
 // The run ends of `width` bytes from `start` to `stop` in the body, and the column's offset and length.
-#[derive(Drop)]
+#[derive(Clone, Copy)]
 pub struct Ends {
     pub start: usize,
     pub stop: usize,

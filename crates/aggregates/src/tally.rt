@@ -7,7 +7,7 @@ use crate::wide;
 use crate::wide::Wide;
 
 // What one row adds: 1 where it counts, the number as two's complement of its bytes, and 1 where it is below zero.
-#[derive(Drop)]
+#[derive(Clone, Copy)]
 pub struct Cell {
     pub count: u64,
     pub bits: u64,
@@ -15,7 +15,7 @@ pub struct Cell {
 }
 
 // What rows have added, their patterns as two halves.
-#[derive(Drop)]
+#[derive(Clone, Copy)]
 pub struct Tally {
     pub count: u64,
     pub hi: u64,
@@ -24,7 +24,7 @@ pub struct Tally {
 }
 
 // A sum that 64 bits hold as two's complement.
-#[derive(Drop)]
+#[derive(Clone, Copy)]
 pub enum Total {
     Fits(i64),
     Outside,

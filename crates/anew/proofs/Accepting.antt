@@ -69,7 +69,7 @@ module _ (x : Lent) (buffers : List ℕ) (tree : Tree) (root : Ty) (column : Col
     abbrev pub finished : Finished
     finished =
         record {
-          ground = 0;
+          refusal = 0;
           lengths = length_table x buffers counters room base;
           nulls = null_table x buffers counters room base;
           places = place_table x buffers counters room base;

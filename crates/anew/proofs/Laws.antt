@@ -64,31 +64,31 @@ module _ (formats schema : List ℕ) (x : Tables) (first n own : ℕ) (made : Li
       (unchanged formats schema x first n own made walk parts plan counters room 9)
 
   -- A REFUSED CALL leaves plan, counters and room: "State and every byte stay."
-  pub anew_keeps : (answer.ground ≡ 0 → ⊥) → (answer.plan ≡ plan) × (answer.counters ≡ counters) × (answer.room ≡ room)
+  pub anew_keeps : (answer.refusal ≡ 0 → ⊥) → (answer.plan ≡ plan) × (answer.counters ≡ counters) × (answer.room ≡ room)
   unfolding anew
   anew_keeps = go (small_body room) (eqb (or_else before of_room) 0)
     where
-      go : (a b : Bool) → ((chosen a b).ground ≡ 0 → ⊥) → ((chosen a b).plan ≡ plan) × ((chosen a b).counters ≡ counters) × ((chosen a b).room ≡ room)
+      go : (a b : Bool) → ((chosen a b).refusal ≡ 0 → ⊥) → ((chosen a b).plan ≡ plan) × ((chosen a b).counters ≡ counters) × ((chosen a b).room ≡ room)
       go false b h = (refl, refl, refl)
       go true false h = (refl, refl, refl)
       go true true h = absurd (h refl)
 
   -- the ground, where the room is within the ceiling
-  pub anew_ground : small_body room ≡ true → answer.ground ≡ or_else before of_room
+  pub anew_ground : small_body room ≡ true → answer.refusal ≡ or_else before of_room
   unfolding anew
   anew_ground s = rw s (go (eqb (or_else before of_room) 0) refl)
     where
-      go : (b : Bool) → eqb (or_else before of_room) 0 ≡ b → (chosen true b).ground ≡ or_else before of_room
+      go : (b : Bool) → eqb (or_else before of_room) 0 ≡ b → (chosen true b).refusal ≡ or_else before of_room
       go true e = sym (eqb-true _ _ e)
       go false e = refl
 
   -- THE GROUNDS IN THEIR ORDER: the column's, the call's own, those of its walk, and 14 and 13 of the room
-  pub anew_order : small_body room ≡ true → answer.ground ≡ or_else (column_ground formats schema x first n) (or_else own (or_else walk.ans of_room))
+  pub anew_order : small_body room ≡ true → answer.refusal ≡ or_else (column_ground formats schema x first n) (or_else own (or_else walk.ans of_room))
   unfolding ahead
   anew_order s = anew_ground s ∙ or_or (column_ground formats schema x first n) (or_else own walk.ans) of_room ∙ ap (or_else (column_ground formats schema x first n)) (or_or own walk.ans of_room)
 
   -- .. and 9 where it is not
-  pub anew_large : small_body room ≡ false → answer.ground ≡ 9
+  pub anew_large : small_body room ≡ false → answer.refusal ≡ 9
   unfolding anew
   anew_large s = rw s refl
 
@@ -117,7 +117,7 @@ module _ (formats schema : List ℕ) (x : Tables) (first n own : ℕ) (made : Li
       go false p b q c r h = absurd (omega arith)
 
   -- AN ACCEPTED CALL meets none of the grounds, and writes its result
-  pub anew_accepted : answer.ground ≡ 0 → Accepted
+  pub anew_accepted : answer.refusal ≡ 0 → Accepted
   unfolding anew ahead
   anew_accepted = go (small_body room) refl (eqb (or_else before of_room) 0) refl
     where
@@ -138,7 +138,7 @@ module _ (formats schema : List ℕ) (x : Tables) (first n own : ℕ) (made : Li
             answer_is = sym w;
           }
 
-      go : (a : Bool) → small_body room ≡ a → (b : Bool) → eqb (or_else before of_room) 0 ≡ b → (chosen a b).ground ≡ 0 → Accepted
+      go : (a : Bool) → small_body room ≡ a → (b : Bool) → eqb (or_else before of_room) 0 ≡ b → (chosen a b).refusal ≡ 0 → Accepted
       go false p b q h = absurd (omega arith)
       go true p false q h = absurd (eqb-false _ _ q h)
       go true p true q h = passed p (eqb-true _ _ q) (rw (p, q) refl)
@@ -150,20 +150,20 @@ module _ (formats schema : List ℕ) (x : Tables) (first n own : ℕ) (made : Li
   asked_none a = or_zero (column_ground formats schema x first n) (or_else own walk.ans) a.column_good ∙ or_zero own walk.ans a.own_none ∙ a.walk_done
 
   module _ (same : join_lengths (length plan) (length counters) ≡ true) where
-    asked_ground : asked.ground ≡ before
+    asked_ground : asked.refusal ≡ before
     unfolding asking
     asked_ground = rw same (go (eqb before 0) refl)
       where
-        go : (a : Bool) → eqb before 0 ≡ a → (cond {A = Asking} a (record { ground = 0; plan = made; counters = walk.counters }) (record { ground = before; plan = plan; counters = counters })).ground ≡ before
+        go : (a : Bool) → eqb before 0 ≡ a → (cond {A = Asking} a (record { refusal = 0; plan = made; counters = walk.counters }) (record { refusal = before; plan = plan; counters = counters })).refusal ≡ before
         go true e = sym (eqb-true _ _ e)
         go false e = refl
 
-    asked_done : before ≡ 0 → asked ≡ record { ground = 0; plan = made; counters = walk.counters }
+    asked_done : before ≡ 0 → asked ≡ record { refusal = 0; plan = made; counters = walk.counters }
     unfolding asking
     asked_done e = rw (same, e)
 
     -- WHAT IS ASKED BEFORE ROOM IS LENT is what the call does: its ground, else 14 or 13 of the lent parts; and plan and counters are those that were answered
-    pub anew_asked : small_body room ≡ true → (answer.ground ≡ or_else asked.ground of_room) × (answer.ground ≡ 0 → (answer.plan ≡ asked.plan) × (answer.counters ≡ asked.counters))
+    pub anew_asked : small_body room ≡ true → (answer.refusal ≡ or_else asked.refusal of_room) × (answer.refusal ≡ 0 → (answer.plan ≡ asked.plan) × (answer.counters ≡ asked.counters))
     anew_asked s = (anew_ground s ∙ ap (λ g. or_else g of_room) (sym asked_ground), λ h. after (anew_accepted h))
       where
         after : Accepted → (answer.plan ≡ asked.plan) × (answer.counters ≡ asked.counters)
@@ -172,8 +172,8 @@ module _ (formats schema : List ℕ) (x : Tables) (first n own : ℕ) (made : Li
             (ap (λ o. o.plan) a.answer_is ∙ sym (ap (λ o. o.plan) q), ap (λ o. o.counters) a.answer_is ∙ sym (ap (λ o. o.counters) q))
 
     -- PARTS AS THE QUESTION ASKS FOR: where it answers no ground and the lent parts lie well and hold what its plan and counters need, the call is accepted
-    pub anew_enough : small_body room ≡ true → asked.ground ≡ 0 → parts_placed parts (part_total asked.plan) (length room) ≡ true → parts_hold asked.plan asked.counters parts ≡ true
-        → answer.ground ≡ 0
+    pub anew_enough : small_body room ≡ true → asked.refusal ≡ 0 → parts_placed parts (part_total asked.plan) (length room) ≡ true → parts_hold asked.plan asked.counters parts ≡ true
+        → answer.refusal ≡ 0
     unfolding room_ground
     anew_enough s g p h = anew_ground s ∙ or_zero before of_room none ∙ of_room_none (subst Fits (asked_done none) (p, h))
       where
@@ -187,15 +187,15 @@ module _ (formats schema : List ℕ) (x : Tables) (first n own : ℕ) (made : Li
         of_room_none q = rw (same, q.0, q.1)
 
   -- A REFUSED QUESTION leaves plan and counters
-  pub asking_keeps : (asked.ground ≡ 0 → ⊥) → (asked.plan ≡ plan) × (asked.counters ≡ counters)
+  pub asking_keeps : (asked.refusal ≡ 0 → ⊥) → (asked.plan ≡ plan) × (asked.counters ≡ counters)
   unfolding asking
   asking_keeps = go (eqb before 0) (join_lengths (length plan) (length counters))
     where
       by : Bool → Bool → Asking
       by a b =
-          cond a (cond b (record { ground = 0; plan = made; counters = walk.counters }) (record { ground = 14; plan = plan; counters = counters })) (record { ground = before; plan = plan; counters = counters })
+          cond a (cond b (record { refusal = 0; plan = made; counters = walk.counters }) (record { refusal = 14; plan = plan; counters = counters })) (record { refusal = before; plan = plan; counters = counters })
 
-      go : (a b : Bool) → ((by a b).ground ≡ 0 → ⊥) → ((by a b).plan ≡ plan) × ((by a b).counters ≡ counters)
+      go : (a b : Bool) → ((by a b).refusal ≡ 0 → ⊥) → ((by a b).plan ≡ plan) × ((by a b).counters ≡ counters)
       go true true h = absurd (h refl)
       go true false h = (refl, refl)
       go false b h = (refl, refl)

@@ -96,7 +96,7 @@ module _ (formats schema : List ℕ) (x : Tables) (first n own target tn : ℕ) 
   answer = anew formats schema x first n own made walk parts plan counters room
 
   module _ (ends : (i : ℕ) → suc i < tn → code_of made i ≡ 23 → keep (suc i) ≡ false) (column : Column type) (filled : Filled lent x.buffers type walk column) (room_bytes : AllBelow 256 room)
-      (ok : answer.ground ≡ 0) where
+      (ok : answer.refusal ≡ 0) where
     passed : Accepted formats schema x first n own made walk parts plan counters room
     passed = anew_accepted formats schema x first n own made walk parts plan counters room ok
 

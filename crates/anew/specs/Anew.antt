@@ -21,7 +21,7 @@ or_else g h = cond (eqb g 0) h g
 
 -- what a question before any room is lent leaves
 pub record Asking : Type 0 where
-  pub ground : ℕ
+  pub refusal : ℕ
   pub plan : List ℕ
   pub counters : List ℕ
 
@@ -47,17 +47,17 @@ module _ (formats schema : List ℕ) (x : Tables) (first n own : ℕ) (made : Li
   unfoldable pub asking : (plan counters : List ℕ) → Asking
   asking plan counters =
       cond (eqb ahead 0)
-      (cond (join_lengths (length plan) (length counters)) (record { ground = 0; plan = made; counters = walk.counters }) (record { ground = 14; plan = plan; counters = counters }))
-      (record { ground = ahead; plan = plan; counters = counters })
+      (cond (join_lengths (length plan) (length counters)) (record { refusal = 0; plan = made; counters = walk.counters }) (record { refusal = 14; plan = plan; counters = counters }))
+      (record { refusal = ahead; plan = plan; counters = counters })
 
   module _ (parts plan counters room : List ℕ) where
     -- "State and every byte stay."
     abbrev pub unchanged : ℕ → Opening
-    unchanged g = record { ground = g; plan = plan; counters = counters; room = room }
+    unchanged g = record { refusal = g; plan = plan; counters = counters; room = room }
 
     -- the result as it is written
     abbrev pub written : Opening
-    written = record { ground = 0; plan = made; counters = walk.counters; room = apply made parts walk.log room }
+    written = record { refusal = 0; plan = made; counters = walk.counters; room = apply made parts walk.log room }
 
     -- the first ground that stands: 14 just before 13, behind all that is asked before room is
     abbrev pub ground_of : ℕ

@@ -6,21 +6,21 @@ ghost use Rattle.array_data.specs.entries.Entries.{column, spot_in, entry_in, va
 use crate::lent_tables;
 
 // Where an entry stands in the body.
-#[derive(Drop)]
+#[derive(Clone, Copy)]
 pub enum Spot {
     At(usize),
     Outside,
 }
 
 // A number of a buffer; Outside where the body does not hold it.
-#[derive(Drop)]
+#[derive(Clone, Copy)]
 pub enum Entry {
     Value(u64),
     Outside,
 }
 
 // Whether a slot is valid; Outside where its bit is not in the body.
-#[derive(Drop)]
+#[derive(Clone, Copy)]
 pub enum Validity {
     Valid,
     Null,

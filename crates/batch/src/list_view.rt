@@ -234,18 +234,18 @@ pub fn copy_rows(
 }
 
 // What stands before the rows of a list-view's child: a ground, and how many rows its sizes name together.
-#[derive(Drop)]
+#[derive(Clone, Copy)]
 pub struct Head {
-    pub ground: u8,
+    pub refusal: u8,
     pub total: u64,
 }
 
 // No rows, for a ground.
 fn refused(g: u8) -> Head
-    ensures { result.ground ≡ g }
+    ensures { result.refusal ≡ g }
 {
     Head {
-        ground: g,
+        refusal: g,
         total: 0,
     }
 }
@@ -267,9 +267,9 @@ pub fn put_head(
 ) -> Head
     requires first_bound { (first < 2 ^ 32) × (i + 1 < 32) × (slot + n < 2 ^ 63) }
     requires w_value { (w ≡ 4 → ⊥) → w ≡ 8 }
-    ensures any_lengths { (result.ground ≡ 0 → ⊥) → AnyLengths plan parts places body first (λ j. (child : Walk) → Did (was plan) (was parts) write (batch_list_view j child w i slot n (was counters)) (was room) result.ground (was counters) (left room)) }
-    ensures named { result.ground ≡ 0 → Named (was body) (place (join [] [] [] (was places) [] first 0) i 3) (place (join [] [] [] (was places) [] first 0) i 5) w slot n result.total }
-    ensures any_lengths_2 { result.ground ≡ 0 → AnyLengths plan parts places body first (λ j. (child : Walk) → Rests (was plan) (was parts) write (batch_list_view j child w i slot n (was counters)) (was room) (rows_of j child w i slot n (was counters)) (left room)) }
+    ensures any_lengths { (result.refusal ≡ 0 → ⊥) → AnyLengths plan parts places body first (λ j. (child : Walk) → Did (was plan) (was parts) write (batch_list_view j child w i slot n (was counters)) (was room) result.refusal (was counters) (left room)) }
+    ensures named { result.refusal ≡ 0 → Named (was body) (place (join [] [] [] (was places) [] first 0) i 3) (place (join [] [] [] (was places) [] first 0) i 5) w slot n result.total }
+    ensures any_lengths_2 { result.refusal ≡ 0 → AnyLengths plan parts places body first (λ j. (child : Walk) → Rests (was plan) (was parts) write (batch_list_view j child w i slot n (was counters)) (was room) (rows_of j child w i slot n (was counters)) (left room)) }
 {
     if !has_child(plan, i) {
         return refused(12);
@@ -301,5 +301,5 @@ pub fn put_head(
         w * n,
     );
     let total = sum - rows;
-    Head { ground: 0, total }
+    Head { refusal: 0, total }
 }

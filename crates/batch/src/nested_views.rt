@@ -98,8 +98,8 @@ fn copy_list_view(
     let t = list_view::put_head(
         plan, parts, places, body, counters, room, write, first, i, w, slot, n,
     );
-    if t.ground != 0 {
-        return t.ground;
+    if t.refusal != 0 {
+        return t.refusal;
     }
     if batch_walk::is_flat(plan, i + 1) {
         return list_view::copy_rows(

@@ -10,7 +10,7 @@ ghost use Rattle.batch.specs.batch_walk.Rows.{entries_from};
 use nested_rows::lookups;
 
 // The child's rows a .. a + m - 1, and the parent's row that is looked at next.
-#[derive(Drop)]
+#[derive(Clone, Copy)]
 pub struct Stretch {
     pub a: u64,
     pub m: u64,

@@ -11,7 +11,7 @@ use crate::{homes, sizes};
 use walk::plan_words;
 
 // Whether every row has a child whose rows its position can name, and whether each child's rows are one stretch.
-#[derive(Drop)]
+#[derive(Clone, Copy)]
 pub struct Fall {
     pub sound: bool,
     pub whole: bool,

@@ -35,7 +35,7 @@ use Rattle.coding.proofs.InOrder.{expand_room}
 
 -- an accepted encoding, and tables that hold the finished ones from the target's node on
 module _ (formats schema lengths places buffers body : List ℕ) (first n target start end : ℕ) (low : first < 2 ^ 32) (small : (j : ℕ) → get_or body j 0 < 256) (parts plan counters room : List ℕ)
-    (room_bytes : AllBelow 256 room) (ok : (encoding formats schema (tables_of lengths places buffers body) first n target start end parts plan counters room).ground ≡ 0) (base : ℕ) (whole : List ℕ)
+    (room_bytes : AllBelow 256 room) (ok : (encoding formats schema (tables_of lengths places buffers body) first n target start end parts plan counters room).refusal ≡ 0) (base : ℕ) (whole : List ℕ)
     (bodied : Bodied whole (lent_for (tables_of lengths places buffers body) (encode_plan formats schema (tables_of lengths places buffers body) first n target start end) parts first n)
     (encoding formats schema (tables_of lengths places buffers body) first n target start end parts plan counters room).room base)
     (short : length whole ≤ ceiling) (lengths' places' buffers' body' : List ℕ)
@@ -80,7 +80,7 @@ module _ (formats schema lengths places buffers body : List ℕ) (first n target
 
   -- ALL OF IT IS EXPANDED where the room is enough: 14 and 13 of the room alone stand in the way
   pub back_grounds : small_body room' ≡ true → plain_over formats schema target target' ≡ true
-      → (expanding formats schema z target 3 target' 0 (end - start) parts' plan' counters' room').ground
+      → (expanding formats schema z target 3 target' 0 (end - start) parts' plan' counters' room').refusal
       ≡ room_ground (expand_plan formats schema z target 3 target' 0 (end - start)) (expand_out formats schema z target 3 target' 0 (end - start)).counters parts' (length plan') (length counters') (length room')
   back_grounds s due = expand_room formats schema lengths' places' buffers' body' target 3 target' 0 (end - start) low' small' parts' plan' counters' room' s good are_runs due inside
 
@@ -91,7 +91,7 @@ module _ (formats schema lengths places buffers body : List ℕ) (first n target
   reads_at c e = subst (λ c. read_all (t_run_end w (t_plain (fixed (number_or (number_of c))))) (column_of (tree_of formats schema target 3) (tables_from z target) (t_run_end w (t_plain (fixed (number_or (number_of c))))) 0) ≡ rows) (sym e)
 
   -- "AFTER THE ENCODER THOSE IT STARTED FROM": an accepted expansion of all of it, finished, reads as the rows of the column that was encoded
-  pub back_rows : AllBelow 256 room' → (expanding formats schema z target 3 target' 0 (end - start) parts' plan' counters' room').ground ≡ 0 → (base' : ℕ) (whole' : List ℕ)
+  pub back_rows : AllBelow 256 room' → (expanding formats schema z target 3 target' 0 (end - start) parts' plan' counters' room').refusal ≡ 0 → (base' : ℕ) (whole' : List ℕ)
       → Bodied whole' (lent_for z (expand_plan formats schema z target 3 target' 0 (end - start)) parts' target 3) (expanding formats schema z target 3 target' 0 (end - start) parts' plan' counters' room').room base'
       → read_all (t_plain (fixed (value_number formats schema target target')))
       (column_of (tree_of formats schema target' 1)

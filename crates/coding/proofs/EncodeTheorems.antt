@@ -38,7 +38,7 @@ use Rattle.coding.proofs.Fitted as f
 use Rattle.coding.proofs.Finished.{Finished, finish, lends, writes}
 
 module _ (formats schema lengths places buffers body : List ℕ) (first n target start end : ℕ) (low : first < 2 ^ 32) (small : (j : ℕ) → get_or body j 0 < 256) (parts plan counters room : List ℕ)
-    (room_bytes : AllBelow 256 room) (ok : (encoding formats schema (tables_of lengths places buffers body) first n target start end parts plan counters room).ground ≡ 0) where
+    (room_bytes : AllBelow 256 room) (ok : (encoding formats schema (tables_of lengths places buffers body) first n target start end parts plan counters room).refusal ≡ 0) where
   abbrev tables : Tables
   tables = tables_of lengths places buffers body
 

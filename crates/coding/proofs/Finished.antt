@@ -34,7 +34,7 @@ pub record Finished (tree : Tree) (tables : Tables) (nulls : List ℕ) (t : Ty) 
 -- a result of a type that is known by its name
 module _ (formats schema : List ℕ) (x : Tables) (first n own target tn : ℕ) (keep : ℕ → Bool) (walk : Out) (parts plan counters room : List ℕ) (t : typed formats schema target tn ≡ true) (c : ceilings formats schema target tn ≡ true)
     (ends : (i : ℕ) → suc i < tn → code_of (plan_anew formats schema target tn keep true 0) i ≡ 23 → keep (suc i) ≡ false) (room_bytes : AllBelow 256 room)
-    (ok : (anew formats schema x first n own (plan_anew formats schema target tn keep true 0) walk parts plan counters room).ground ≡ 0) where
+    (ok : (anew formats schema x first n own (plan_anew formats schema target tn keep true 0) walk parts plan counters room).refusal ≡ 0) where
   abbrev made : List ℕ
   made = plan_anew formats schema target tn keep true 0
 

@@ -38,7 +38,7 @@ module _ (formats schema lengths places buffers body : List ℕ) (first n target
       room_ground (encode_plan formats schema x first n target start end) (encode_out formats schema x first n target start end).counters parts (length plan) (length counters) (length room)
 
   -- 9, 10 and 12 of the column, 10, 2 and 7, 14 and 13, and no other ground
-  pub encode_grounds : (encoding formats schema x first n target start end parts plan counters room).ground ≡ or_else (column_ground formats schema x first n) (or_else (encode_own formats schema x first n target start end) of_runs)
+  pub encode_grounds : (encoding formats schema x first n target start end parts plan counters room).refusal ≡ or_else (column_ground formats schema x first n) (or_else (encode_own formats schema x first n target start end) of_runs)
   encode_grounds =
       anew_order formats schema x first n (encode_own formats schema x first n target start end) (encode_plan formats schema x first n target start end) (encode_out formats schema x first n target start end) parts plan counters room s
       ∙ or_never (column_ground formats schema x first n) (encode_own formats schema x first n target start end) (encode_out formats schema x first n target start end).ans of_runs
@@ -46,7 +46,7 @@ module _ (formats schema lengths places buffers body : List ℕ) (first n target
 
   module _ (good : column_ground formats schema x first n ≡ 0) where
     abbrev encoder : ℕ
-    encoder = (encoding formats schema x first n target start end parts plan counters room).ground
+    encoder = (encoding formats schema x first n target start end parts plan counters room).refusal
 
     by_own : (g : ℕ) → encode_own formats schema x first n target start end ≡ g → encoder ≡ or_else g of_runs
     by_own g o = encode_grounds ∙ or_zero _ _ good ∙ ap (λ z. or_else z of_runs) o
@@ -89,7 +89,7 @@ module _ (formats schema lengths places buffers body : List ℕ) (first n target
       room_ground (expand_plan formats schema x first n target start end) (expand_out formats schema x first n target start end).counters parts (length plan) (length counters) (length room)
 
   -- 9, 10 and 12 of the column, 10 and 2, 14 and 13, and no other ground
-  pub expand_grounds : (expanding formats schema x first n target start end parts plan counters room).ground ≡ or_else (column_ground formats schema x first n) (or_else (expand_own formats schema x first n target start end) of_rows)
+  pub expand_grounds : (expanding formats schema x first n target start end parts plan counters room).refusal ≡ or_else (column_ground formats schema x first n) (or_else (expand_own formats schema x first n target start end) of_rows)
   expand_grounds =
       anew_order formats schema x first n (expand_own formats schema x first n target start end) (expand_plan formats schema x first n target start end) (expand_out formats schema x first n target start end) parts plan counters room s
       ∙ or_never (column_ground formats schema x first n) (expand_own formats schema x first n target start end) (expand_out formats schema x first n target start end).ans of_rows
@@ -97,7 +97,7 @@ module _ (formats schema lengths places buffers body : List ℕ) (first n target
 
   module _ (good : column_ground formats schema x first n ≡ 0) where
     abbrev expansion : ℕ
-    expansion = (expanding formats schema x first n target start end parts plan counters room).ground
+    expansion = (expanding formats schema x first n target start end parts plan counters room).refusal
 
     by_its : (g : ℕ) → expand_own formats schema x first n target start end ≡ g → expansion ≡ or_else g of_rows
     by_its g o = expand_grounds ∙ or_zero _ _ good ∙ ap (λ z. or_else z of_rows) o

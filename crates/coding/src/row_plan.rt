@@ -12,7 +12,7 @@ use array_data::lent_tables;
 use walk::plan_words;
 
 // What the plan of one node of numbers is made of: its code, 1 where it is nullable, 1 where it keeps nulls.
-#[derive(Drop)]
+#[derive(Clone, Copy)]
 pub struct Row {
     pub code: u8,
     pub nullable: u64,

@@ -11,7 +11,7 @@ ghost use Rattle.bits.specs.Bits.{put_bits};
 use aggregates::patterns;
 
 // Where rows stand in a body: the first from `start` on, and its validity bit, where there is one, the bit `bit` of the byte `mask`.
-#[derive(Drop)]
+#[derive(Clone, Copy)]
 pub struct Slots {
     pub start: usize,
     pub mask: usize,
@@ -19,7 +19,7 @@ pub struct Slots {
 }
 
 // Where the parts of a result begin in the room: run ends, values, and the values' validity.
-#[derive(Drop)]
+#[derive(Clone, Copy)]
 pub struct Spots {
     pub ends: usize,
     pub values: usize,

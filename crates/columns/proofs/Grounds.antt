@@ -208,8 +208,8 @@ module _ (formats schema : List ℕ) (x : Tables) where
         go false e b f c g = refl
 
     pub accepted : sources_ground formats schema x sources ≡ 0 → Accepted
-    accepted ground =
-        let h = sym by_nodes ∙ ground in
+    accepted refusal =
+        let h = sym by_nodes ∙ refusal in
         let p = chosen (small_body x.body && few_sources sources && all_within formats schema x sources) _ 9 (omega arith) h in
         let q = chosen (all_typed formats schema sources) _ 10 (omega arith) p.1 in
         let r = chosen (all_same formats schema sources) _ 11 (omega arith) q.1 in

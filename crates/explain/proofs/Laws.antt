@@ -49,7 +49,7 @@ module _ (x : Lent) (m : ℕ) {c : List ℕ} (n : ℕ) {o : Out} {v : Why} (says
   unfolding why_settled past
   stopped h {w} e k =
       let z : o.ans ≡ 0 → ⊥ = λ y. h (t.answer ∙ y) in
-      record { why = k ∙ rw (ne_eqb o.ans 0 z) refl; left = λ y. absurd (z (sym (ap (λ u. u.ground) k ∙ says.ground) ∙ y)) }
+      record { why = k ∙ rw (ne_eqb o.ans 0 z) refl; left = λ y. absurd (z (sym (ap (λ u. u.refusal) k ∙ says.refusal) ∙ y)) }
 
   pub kept : (g ≡ 0 → ⊥) → c2 ≡ c
   kept h = rw (ne_eqb g 0 h) at t.counters
@@ -71,12 +71,12 @@ rows_are x s a e p h = sym (h ∙ rw p refl)
 module _ (x : Lent) (m : ℕ) {c : List ℕ} where
   pub no_source : (s a e : ℕ) {k : ℕ} → k ≡ source_count x.plan → k ≤ s → {w : Why} → w ≡ only 1 → {c2 : List ℕ} → Explains x m (copy s a e) c w c2
   unfolding unless
-  no_source s a e q f h = record { why = h ∙ rw (le-ltb s (source_count x.plan) (subst (λ z. z ≤ s) q f)) refl; left = λ z. absurd (omega (arith, sym (ap (λ u. u.ground) h) ∙ z)) }
+  no_source s a e q f h = record { why = h ∙ rw (le-ltb s (source_count x.plan) (subst (λ z. z ≤ s) q f)) refl; left = λ z. absurd (omega (arith, sym (ap (λ u. u.refusal) h) ∙ z)) }
 
   module _ (s a e : ℕ) {k : ℕ} (q : k ≡ source_count x.plan) (f : s < k) {first : ℕ} (p : first ≡ get_or x.sources (2 * s) 0) {t : Bool} (h : t ≡ (leb a e && leb e (get_or x.lengths (2 * first) 0))) where
     pub no_rows : not t ≡ true → {w : Why} → w ≡ only 2 → {c2 : List ℕ} → Explains x m (copy s a e) c w c2
     unfolding unless
-    no_rows z l = record { why = l ∙ rw (known x s q f, rows_are x s a e p h ∙ h ∙ no h z) refl; left = λ y. absurd (omega (arith, sym (ap (λ u. u.ground) l) ∙ y)) }
+    no_rows z l = record { why = l ∙ rw (known x s q f, rows_are x s a e p h ∙ h ∙ no h z) refl; left = λ y. absurd (omega (arith, sym (ap (λ u. u.refusal) l) ∙ y)) }
 
     pub copied : not t ≡ false → {w : Why} {c2 : List ℕ}
         → Settles x m c (e - a) (copy_walk (join x.plan x.parts x.lengths x.places x.body first s) 8 0 a (e - a) c) (why_copy (join x.plan x.parts x.lengths x.places x.body first s) 8 0 a (e - a) c) w c2
@@ -92,7 +92,7 @@ module _ (x : Lent) (m : ℕ) {c : List ℕ} where
 
   module _ (n : ℕ) {k : ℕ} (q : k ≡ keeps_of x.plan 0) where
     pub no_nulls : k ≡ 0 → {w : Why} → w ≡ only 3 → {c2 : List ℕ} → Explains x m (nulls n) c w c2
-    no_nulls z l = record { why = l ∙ rw (eq-eqb (keeps_of x.plan 0) 0 (sym q ∙ z)) refl; left = λ y. absurd (omega (arith, sym (ap (λ u. u.ground) l) ∙ y)) }
+    no_nulls z l = record { why = l ∙ rw (eq-eqb (keeps_of x.plan 0) 0 (sym q ∙ z)) refl; left = λ y. absurd (omega (arith, sym (ap (λ u. u.refusal) l) ∙ y)) }
 
     pub nulled : (k ≡ 0 → ⊥) → {w : Why} {c2 : List ℕ}
         → Settles x m c n (null_walk (join x.plan x.parts [] [] [] 0 0) 8 0 (walked n) c) (why_nulls (join x.plan x.parts [] [] [] 0 0) 8 0 n c) w c2 → Explains x m (nulls n) c w c2
@@ -187,19 +187,19 @@ module _ (words : List ℕ) where
         is_order : why_order x m d (call_at words k) ≡ v
         is_order = why_is x m d h w (call_at words k) ∙ sym s.why
 
-        pub list_stop : (v.ground ≡ 0 → ⊥) → {p : ℕ} → p ≡ k → why_listed_from x m k d (calls_from words n k) ≡ listed x m p v
+        pub list_stop : (v.refusal ≡ 0 → ⊥) → {p : ℕ} → p ≡ k → why_listed_from x m k d (calls_from words n k) ≡ listed x m p v
         unfolding why_listed_from calls_from
-        list_stop z q = rw (e, is_order, ne_eqb v.ground 0 z, q) refl
+        list_stop z q = rw (e, is_order, ne_eqb v.refusal 0 z, q) refl
 
-        left_is : v.ground ≡ 0 → (order_measure x d (call_at words k)).counters ≡ c2
+        left_is : v.refusal ≡ 0 → (order_measure x d (call_at words k)).counters ≡ c2
         unfolding measured
         left_is z = ap (λ (u : Measured). u.counters) (measure_is x d d h sound (call_at words k)) ∙ rw (eq-eqb (order_walk x (call_at words k) d).ans 0 (s.left z).0) (sym (s.left z).1)
 
-        pub list_on : v.ground ≡ 0 → {k2 : ℕ} → k2 ≡ k + 1 → why_listed_from x m k d (calls_from words n k) ≡ why_listed_from x m k2 c2 (calls_from words n2 k2)
+        pub list_on : v.refusal ≡ 0 → {k2 : ℕ} → k2 ≡ k + 1 → why_listed_from x m k d (calls_from words n k) ≡ why_listed_from x m k2 c2 (calls_from words n2 k2)
         unfolding why_listed_from calls_from
-        list_on z q = rw (e, is_order, eq-eqb v.ground 0 z, q, add-one k, left_is z) refl
+        list_on z q = rw (e, is_order, eq-eqb v.refusal 0 z, q, add-one k, left_is z) refl
 
-        pub list_long : v.ground ≡ 0 → length c2 ≡ 96
+        pub list_long : v.refusal ≡ 0 → length c2 ≡ 96
         list_long z = ap length (s.left z).1 ∙ (long_order x (call_at words k) (record { size = h })).left.size
 
       pub list_end : (n k : ℕ) (d : List ℕ) → n ≡ 0 → {r : WhyListed} → (r.place ≡ 0) × (r.why ≡ only 0) → r ≡ why_listed_from x m k d (calls_from words n k)

@@ -17,7 +17,7 @@ use Rattle.explain.specs.stops.Order.{why_settled}
 -- a walk o from the counters c, which v stops, then 14 and 13: w is what stops it
 pub record Settles (x : Lent) (m : ℕ) (c : List ℕ) (n : ℕ) (o : Out) (v w : Why) (c2 : List ℕ) : Type 0 where
   pub why : w ≡ why_settled x m c n o v
-  pub left : w.ground ≡ 0 → (o.ans ≡ 0) × (c2 ≡ o.counters)
+  pub left : w.refusal ≡ 0 → (o.ans ≡ 0) × (c2 ≡ o.counters)
 
 -- .. both from the counters as they are lent
 abbrev pub Settled : ℕ → (counters : Slice) → ℕ → (List ℕ → Out) → (List ℕ → Why) → Why → Lent → Type 0
@@ -34,4 +34,4 @@ why_call x m c (nulls n) =
 
 pub record Explains (x : Lent) (m : ℕ) (o : Call) (c : List ℕ) (w : Why) (c2 : List ℕ) : Type 0 where
   pub why : w ≡ why_call x m c o
-  pub left : w.ground ≡ 0 → ((order_walk x o c).ans ≡ 0) × (c2 ≡ (order_walk x o c).counters)
+  pub left : w.refusal ≡ 0 → ((order_walk x o c).ans ≡ 0) × (c2 ≡ (order_walk x o c).counters)

@@ -1,5 +1,6 @@
 // Tells which node stopped an order: the ground, the node, the row, and the numbers that clash. Nothing that is lent is written: the walk changes
 // a copy of the counters, and of the room the length alone is asked.
+#![tactic(auto)]
 ghost use Rattle.std.specs.Prelude.{◌≡◌, true, ◌+◌, ◌<◌, ◌≤◌, ◌/◌, ◌^◌, min, length};
 ghost use Rattle.clauses.specs.Slices.{was, left};
 ghost use Rattle.model.specs.Book.{copy, nulls};
@@ -270,12 +271,12 @@ pub fn why_nulls(plan: &[u64], parts: &[u64], counters: &[u64], m: usize, n: u64
 }
 
 // A ground at the first order.
-fn at_first(ground: u8) -> WhyListed
-    ensures { (result.place ≡ 0) × (result.why ≡ only ground) }
+fn at_first(refusal: u8) -> WhyListed
+    ensures { (result.place ≡ 0) × (result.why ≡ only refusal) }
 {
     WhyListed {
         place: 0,
-        why: crate::stop_walks::plain(ground),
+        why: crate::stop_walks::plain(refusal),
     }
 }
 
@@ -301,7 +302,7 @@ fn walk_orders(
         let w = order_at(
             plan, parts, sources, lengths, places, body, &mut tally, m, orders, k,
         );
-        if w.ground != 0 {
+        if w.refusal != 0 {
             return WhyListed {
                 place: k as u32,
                 why: w,

@@ -46,7 +46,7 @@ fn list_row(
     let child = plan_words::rows_of(counters, i + 1);
     if !nested_rows::sum_fits(w, child, size) {
         return Step::Here(Why {
-            ground: OFFSET,
+            refusal: OFFSET,
             node: i,
             row: r,
             needed: plan_words::grow(child, size),
@@ -143,7 +143,7 @@ pub fn step_list(
             rows: last - plan_words::rows_of(counters, i + 1),
         },
         Extended::Over { row, needed } => Step::Here(Why {
-            ground: OFFSET,
+            refusal: OFFSET,
             node: i,
             row: row as u64,
             needed,

@@ -16,7 +16,7 @@ use walk::plan_words;
 
 // What a node says of the nulls that it was handed: nothing stops them, and the counters are those after them; what stops them; or which child
 // does.
-#[derive(Drop)]
+#[derive(Clone, Copy)]
 pub enum NullStep {
     On,
     Here(Why),
@@ -81,7 +81,7 @@ fn homeless(plan: &[u64], i: usize) -> Why
     ensures { result ≡ named (no_home (was plan) i) i }
 {
     Why {
-        ground: nested_rows::no_home(plan, i),
+        refusal: nested_rows::no_home(plan, i),
         node: i,
         row: 0,
         needed: 0,
@@ -146,7 +146,7 @@ fn step_dense(plan: &[u64], counters: &[u64; plan_words::COUNTERS], i: usize, n:
     if POSITIONS < plan_words::grow(child, transform::at_most_far(n)) {
         let position = first_position(child);
         return NullStep::Here(Why {
-            ground: POSITION,
+            refusal: POSITION,
             node: i,
             row: position - child,
             needed: position,
@@ -170,7 +170,7 @@ fn step_end(plan: &[u64], counters: &[u64; plan_words::COUNTERS], i: usize, n: u
         return NullStep::On;
     }
     NullStep::Here(Why {
-        ground: RUN_END,
+        refusal: RUN_END,
         node: i,
         row: 0,
         needed: plan_words::grow(last, n),

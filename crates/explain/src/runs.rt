@@ -33,7 +33,7 @@ pub fn step_run(
     let g = nested_rows::runs_ready(plan, lengths, places, body, counters, first, i, n);
     if g == RUN_END {
         return Step::Here(Why {
-            ground: g,
+            refusal: g,
             node: i,
             row: 0,
             needed: plan_words::grow(plan_words::rows_of(counters, i), n),

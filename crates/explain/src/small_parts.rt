@@ -169,7 +169,7 @@ fn why_part(
         return crate::stop_walks::plain(0);
     }
     Why {
-        ground: TOO_SMALL,
+        refusal: TOO_SMALL,
         node: i,
         row: 0,
         needed: bytes_due(plan, counters, i, b, r, n),
@@ -190,11 +190,11 @@ fn why_node(
     ensures { let part = why_part (was plan) (was counters) (was parts) (r + n) i in result ≡ part 0 (part 1 (part 2 nothing)) }
 {
     let validity = why_part(plan, counters, parts, i, 0, r, n);
-    if validity.ground != 0 {
+    if validity.refusal != 0 {
         return validity;
     }
     let first = why_part(plan, counters, parts, i, 1, r, n);
-    if first.ground != 0 {
+    if first.refusal != 0 {
         return first;
     }
     why_part(plan, counters, parts, i, 2, r, n)
@@ -215,7 +215,7 @@ pub fn why_parts(
     let mut i = 0;
     while i < nodes {
         let w = why_node(plan, counters, parts, i, r, n);
-        if w.ground != 0 {
+        if w.refusal != 0 {
             return w;
         }
         i += 1;

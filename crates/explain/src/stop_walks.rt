@@ -16,7 +16,7 @@ use walk::plan_words;
 
 // What a node says of the rows that it was handed: nothing stops them, and the counters are those after them; what stops them; or which rows
 // of a child do.
-#[derive(Drop)]
+#[derive(Clone, Copy)]
 pub enum Step {
     On,
     Here(Why),
@@ -28,11 +28,11 @@ const FOREIGN: u8 = 12;
 // ---- answers
 
 // A ground that names no node.
-pub fn plain(ground: u8) -> Why
-    ensures { result ≡ only ground }
+pub fn plain(refusal: u8) -> Why
+    ensures { result ≡ only refusal }
 {
     Why {
-        ground,
+        refusal,
         node: 0,
         row: 0,
         needed: 0,

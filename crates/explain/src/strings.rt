@@ -68,7 +68,7 @@ pub fn step_string(
             Step::Here(crate::stop_walks::plain(bytes_ground(body, data, lead, last - old)))
         }
         Extended::Over { row, needed } => Step::Here(Why {
-            ground: OFFSET,
+            refusal: OFFSET,
             node: i,
             row: row as u64,
             needed,

@@ -88,7 +88,7 @@ fn dense_row(
     let child = plan_words::rows_of(counters, k);
     if 2147483648 <= child {
         return Step::Here(Why {
-            ground: OFFSET,
+            refusal: OFFSET,
             node: i,
             row: r,
             needed: child,

@@ -12,11 +12,11 @@ use borrow.Author.Tests.{lt-ltb, le-ltb, le-leb, ltb-true, leb-false, ne_eqb}
 use Rattle.number.specs.Number.{entry}
 use Rattle.columnar.specs.Types.{half}
 use Rattle.schema.specs.formats.Code.{is_list_view, is_list}
-use Rattle.run_ends_lem.specs.Lookup.{bisect}
-use Rattle.run_ends_lem.specs.declared.Runs.{Runs}
-use Rattle.run_ends_lem.specs.declared.Runs.TheVariants.{Range, None}
-use Rattle.run_ends_lem.specs.declared.PhysicalRun.{PhysicalRun}
-use Rattle.run_ends_lem.proofs.Laws.{range_within}
+use Rattle.run_ends.specs.Lookup.{bisect}
+use Rattle.run_ends.specs.declared.Runs.{Runs}
+use Rattle.run_ends.specs.declared.Runs.TheVariants.{Range, None}
+use Rattle.run_ends.specs.declared.PhysicalRun.{PhysicalRun}
+use Rattle.run_ends.proofs.Laws.{range_within}
 use Rattle.array_data.proofs.lent_tables.Laws.{no, yes, and_left, and_right}
 use Rattle.walk.specs.State.{Join, code_of, bytes_of, end_of, rows, add_rows, place, length_of, offset_of, rows_in, slot_of, far}
 use Rattle.walk.specs.Log.{Out, Did, fail, done, need, found, next, each}

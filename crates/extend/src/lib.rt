@@ -1,6 +1,7 @@
 // The walk of an order, of a copy and of nulls: a node hands rows to its children, whose walk does the same one level down, so that the remaining
 // depth falls. The answer is 0 or the ground of refusal; a walk that only tries changes the counters alone, and one of nulls reads no source.
 // Follows arrow-data 60.1.0 src/transform/mod.rs, Apache-2.0; see NOTICE.
+#![tactic(auto)]
 ghost use Rattle.std.specs.Prelude.{◌≡◌, true, ◌||◌, [], ◌+◌, ◌<◌, ◌^◌};
 ghost use Rattle.clauses.specs.Slices.{was};
 ghost use Rattle.schema.specs.formats.Code.{is_list_view, is_list};

@@ -1,4 +1,5 @@
 // The box around a trip's stops: the smallest and largest latitude and longitude of a range of rows, as one frame.
+#![tactic(auto)]
 pub mod float_order;
 
 ghost use Rattle.std.specs.Prelude.{◌≡◌, true, false, not, ◌&&◌, [], ◌+◌, ◌*◌, ◌≤◌, ◌<◌, ◌^◌, length};
@@ -16,7 +17,7 @@ ghost use Rattle.frames.specs.Box.{is_double, found, box_of};
 use array_data::lent_tables;
 
 // Smallest and largest latitude, smallest and largest longitude.
-#[derive(Drop)]
+#[derive(Clone, Copy)]
 pub struct Frame {
     pub south: f64,
     pub north: f64,
@@ -25,14 +26,14 @@ pub struct Frame {
 }
 
 // A range of the body; `given`: whether there is one.
-#[derive(Drop)]
+#[derive(Clone, Copy)]
 struct Mask {
     given: bool,
     at: usize,
     end: usize,
 }
 
-#[derive(Drop)]
+#[derive(Clone, Copy)]
 pub enum Boxed {
     Within(Frame),
     Refused(u8),
@@ -350,11 +351,11 @@ pub fn box_of(
 ) -> Boxed
     ensures { result ≡ box_of (was formats) (was schema) (tables_of (was lengths) (was places) (was buffers) (was body)) first_a n_a first_b n_b start end }
 {
-    let ground = columns::column_pair::pair_ground(
+    let refusal = columns::column_pair::pair_ground(
         formats, schema, lengths, places, buffers, body, first_a, n_a, first_b, n_b,
     );
-    if ground != 0 {
-        return Boxed::Refused(ground);
+    if refusal != 0 {
+        return Boxed::Refused(refusal);
     }
     let inside = columns::column_pair::is_range(lengths, first_a, start, end);
     let inside2 = columns::column_pair::is_range(lengths, first_b, start, end);

@@ -104,7 +104,7 @@ module _ (plan parts sources lengths places body buffers counters room : List �
   unfolding finishing sizes_fit
   finish_far h =
       rw h
-      (record { ground = refl; lengths_are = refl; nulls_are = refl; places_are = refl; buffers_are = refl })
+      (record { refusal = refl; lengths_are = refl; nulls_are = refl; places_are = refl; buffers_are = refl })
 
   kept_same : every (kept_in x buffers counters room base) (nodes_of plan) ≡ every (kept_of plan sources lengths places body) (nodes_of plan)
   unfolding kept_in
@@ -119,21 +119,21 @@ module _ (plan parts sources lengths places body buffers counters room : List �
     unfolding finishing sizes_fit
     finish_kept k =
         rw (near, kept_same, k)
-        (record { ground = refl; lengths_are = refl; nulls_are = refl; places_are = refl; buffers_are = refl })
+        (record { refusal = refl; lengths_are = refl; nulls_are = refl; places_are = refl; buffers_are = refl })
 
     module _ (k : every (kept_of plan sources lengths places body) (nodes_of plan) ≡ true) where
       pub finish_room : holds plan parts counters (length room) ≡ false → Answers end 14 ls ns ps bs
       unfolding finishing sizes_fit room_fits
       finish_room r =
           rw (near, kept_same, k, r)
-          (record { ground = refl; lengths_are = refl; nulls_are = refl; places_are = refl; buffers_are = refl })
+          (record { refusal = refl; lengths_are = refl; nulls_are = refl; places_are = refl; buffers_are = refl })
 
       module _ (r : holds plan parts counters (length room) ≡ true) where
         pub finish_tables : fit plan sources places (length ls) (length ns) (length ps) (length bs) ≡ false → Answers end 14 ls ns ps bs
         unfolding finishing sizes_fit room_fits
         finish_tables t =
             rw (near, kept_same, k, r, fit_same, t)
-            (record { ground = refl; lengths_are = refl; nulls_are = refl; places_are = refl; buffers_are = refl })
+            (record { refusal = refl; lengths_are = refl; nulls_are = refl; places_are = refl; buffers_are = refl })
 
         pub finish_made : fit plan sources places (length ls) (length ns) (length ps) (length bs) ≡ true → {ls2 ns2 ps2 bs2 : List ℕ}
             → ls2 ≡ length_table (lent plan [] sources lengths [] []) [] counters [] 0 → ns2 ≡ null_table x [] counters room 0
@@ -142,4 +142,4 @@ module _ (plan parts sources lengths places body buffers counters room : List �
         unfolding finishing sizes_fit room_fits length_table null_table nulls_at zeros_at
         finish_made t e f g n =
             rw (near, kept_same, k, r, fit_same, t)
-            (record { ground = refl; lengths_are = e; nulls_are = f; places_are = g; buffers_are = n ∙ sym (names_same x buffers counters room base (nodes_of plan)) })
+            (record { refusal = refl; lengths_are = e; nulls_are = f; places_are = g; buffers_are = n ∙ sym (names_same x buffers counters room base (nodes_of plan)) })

@@ -5,7 +5,7 @@ use Rattle.refinement.specs.finishing.Finish.{Finished}
 
 -- the ground that is answered, and the four tables as they are left
 pub record Answers (a : Finished) (r : ℕ) (lengths nulls places buffers : List ℕ) : Type 0 where
-  pub ground : r ≡ a.ground
+  pub refusal : r ≡ a.refusal
   pub lengths_are : lengths ≡ a.lengths
   pub nulls_are : nulls ≡ a.nulls
   pub places_are : places ≡ a.places

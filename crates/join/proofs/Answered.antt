@@ -63,12 +63,12 @@ module _ (x : Lent) (t : Ty) (m : ℕ) (ss : ℕ → Column t) (join : Joined x 
     where
       go : {p : Try (Destination t)} {s : Try Counts} {a : After} → Answers x t m ss join keep c0 μ0 o d counters room p a → map_try (held t) p ≡ s
           → ((d' : Destination t) (c r : List ℕ) → Running x t m ss join keep c0 μ0 d' c r → AllZero (grounds_of x c r os) ↔ Accepts os (held t d'))
-          → AllZero (a.ground ∷ grounds_of x a.counters a.room os) ↔ (elim s as (λ b. Type 0) [ done c' ↦ Accepts os c' | stop g ↦ ⊥ ])
+          → AllZero (a.refusal ∷ grounds_of x a.counters a.room os) ↔ (elim s as (λ b. Type 0) [ done c' ↦ Accepts os c' | stop g ↦ ⊥ ])
       go (made d' a e r did) q f =
-          subst (λ s. AllZero (a.ground ∷ grounds_of x a.counters a.room os) ↔ (elim s as (λ b. Type 0) [ done c' ↦ Accepts os c' | stop g ↦ ⊥ ])) q
+          subst (λ s. AllZero (a.refusal ∷ grounds_of x a.counters a.room os) ↔ (elim s as (λ b. Type 0) [ done c' ↦ Accepts os c' | stop g ↦ ⊥ ])) q
           ((λ h. (f d' a.counters a.room r).0 (other_entries h)), (λ h. ap₂ ◌∷◌ e ((f d' a.counters a.room r).1 h)))
       go (not_made g a e l c s) q f =
-          subst (λ s. AllZero (a.ground ∷ grounds_of x a.counters a.room os) ↔ (elim s as (λ b. Type 0) [ done c' ↦ Accepts os c' | stop g ↦ ⊥ ])) q
+          subst (λ s. AllZero (a.refusal ∷ grounds_of x a.counters a.room os) ↔ (elim s as (λ b. Type 0) [ done c' ↦ Accepts os c' | stop g ↦ ⊥ ])) q
           ((λ h. let z = first_entry_lem h in absurd (omega arith)), (λ h. absurd h))
 
   abbrev Fits : List Call → Counts → Type 0
@@ -83,21 +83,21 @@ module _ (x : Lent) (t : Ty) (m : ℕ) (ss : ℕ → Column t) (join : Joined x 
     where
       go : {p : Try (Destination t)} {s : Try Counts} {a : After} → Answers x t m ss join keep c0 μ0 o d counters room p a → map_try (held t) p ≡ s
           → ((d' : Destination t) (c r : List ℕ) → Running x t m ss join keep c0 μ0 d' c r → No13 (grounds_of x c r os) ↔ Fits os (held t d'))
-          → No13 (a.ground ∷ grounds_of x a.counters a.room os) ↔ ((s ≡ stop 13 → ⊥) × Fits os (after s (held t d)))
+          → No13 (a.refusal ∷ grounds_of x a.counters a.room os) ↔ ((s ≡ stop 13 → ⊥) × Fits os (after s (held t d)))
       go (made d' a e r did) q f =
-          subst (λ s. No13 (a.ground ∷ grounds_of x a.counters a.room os) ↔ ((s ≡ stop 13 → ⊥) × Fits os (after s (held t d)))) q (
+          subst (λ s. No13 (a.refusal ∷ grounds_of x a.counters a.room os) ↔ ((s ≡ stop 13 → ⊥) × Fits os (after s (held t d)))) q (
             (λ h. ((λ z. absurd (let y : ◌≡◌ {A = ℕ} 0 1 = cc z in omega arith)), (f d' a.counters a.room r).0 h.1)),
             (λ h. ((λ z. absurd (omega arith)), (f d' a.counters a.room r).1 h.1)),
           )
       go (not_made g a e l c s) q f =
-          subst (λ v. No13 (a.ground ∷ grounds_of x a.counters a.room os) ↔ ((v ≡ stop 13 → ⊥) × Fits os (after v (held t d)))) q
+          subst (λ v. No13 (a.refusal ∷ grounds_of x a.counters a.room os) ↔ ((v ≡ stop 13 → ⊥) × Fits os (after v (held t d)))) q
           (rw (c, s) (
             (λ h. ((λ z. h.0 (e ∙ stopped z)), (f d counters room run).0 h.1)),
             (λ h. ((λ z. h.0 (ap stop (sym e ∙ z))), (f d counters room run).1 h.1)),
           ))
 
 -- ALL CALLS OF A LIST ARE ACCEPTED exactly where every answer is 0
-pub accepted_zero : (l : Lending) → Bytes l → (opening_of l).ground ≡ 0 → (os : List Call) → AllZero (grounds_in l os) ↔ AllAccepted l os
+pub accepted_zero : (l : Lending) → Bytes l → (opening_of l).refusal ≡ 0 → (os : List Call) → AllZero (grounds_in l os) ↔ AllAccepted l os
 accepted_zero l b accepted os =
     let o = runs l b accepted in
     let first : Destination (type_in l) = start l.gaps (type_in l) l.keep (sources_in l) (columns_in l) in
@@ -106,7 +106,7 @@ accepted_zero l b accepted os =
     (accepts (lent_of l) (type_in l) (sources_in l) (columns_in l) o.join (keeps_in l) (opening_of l).counters o.memory os first (opening_of l).counters (opening_of l).room o.running)
 
 -- ROOM IS ENOUGH exactly where no answer is 13
-pub enough_room : (l : Lending) → Bytes l → (opening_of l).ground ≡ 0 → (os : List Call) → No13 (grounds_in l os) ↔ Enough l os
+pub enough_room : (l : Lending) → Bytes l → (opening_of l).refusal ≡ 0 → (os : List Call) → No13 (grounds_in l os) ↔ Enough l os
 enough_room l b accepted os =
     let o = runs l b accepted in
     let first : Destination (type_in l) = start l.gaps (type_in l) l.keep (sources_in l) (columns_in l) in

@@ -28,7 +28,7 @@ use Rattle.join.proofs.Demand3.{the_book}
 use Rattle.join.proofs.CutShown.{column_shown, runs_shown_lem}
 
 -- after an accepted opening and any list of calls, refused ones included
-module _ (l : Lending) (b : Bytes l) (accepted : (opening_of l).ground ≡ 0) where
+module _ (l : Lending) (b : Bytes l) (accepted : (opening_of l).refusal ≡ 0) where
   abbrev opens : Opened l.formats l.schema l.sources l.tables l.keep l.gaps l.parts (opening_of l)
   opens = runs l b accepted
 
@@ -47,7 +47,7 @@ module _ (l : Lending) (b : Bytes l) (accepted : (opening_of l).ground ≡ 0) wh
     next : reached_by l (os ++ o ∷ []) ≡ is.reached
     counted : call_answer l os o ≡ done (held_after l (os ++ o ∷ []))
 
-  taken : (os : List Call) (o : Call) → (next_call l os o).ground ≡ 0 → Taken os o
+  taken : (os : List Call) (o : Call) → (next_call l os o).refusal ≡ 0 → Taken os o
   taken os o h =
       let c =
       carried_out_lem (lent_of l) (type_in l) (sources_in l) (columns_in l) opens.join (keeps_in l) (opening_of l).counters opens.memory (reached_by l os) (after_calls l os).counters (after_calls l os).room
@@ -73,7 +73,7 @@ module _ (l : Lending) (b : Bytes l) (accepted : (opening_of l).ground ≡ 0) wh
   good = obeys (lent_of l) (type_in l) (sources_in l) (columns_in l) opens.join
 
   -- the halves a .. k and k .. e are both answered 0, with nothing between
-  module _ (os : List Call) (j a k e : ℕ) (one : (next_call l os (copy j a k)).ground ≡ 0) (two : (next_call l (os ++ copy j a k ∷ []) (copy j k e)).ground ≡ 0) where
+  module _ (os : List Call) (j a k e : ℕ) (one : (next_call l os (copy j a k)).refusal ≡ 0) (two : (next_call l (os ++ copy j a k ∷ []) (copy j k e)).refusal ≡ 0) where
     abbrev pub halves : List Call
     halves = os ++ copy j a k ∷ copy j k e ∷ []
 
@@ -98,7 +98,7 @@ module _ (l : Lending) (b : Bytes l) (accepted : (opening_of l).ground ≡ 0) wh
         left.counted right_counted
 
     -- THE SINGLE ORDER IS ACCEPTED: no ground stands, and its room is enough
-    pub cut_accepted : (next_call l os (copy j a e)).ground ≡ 0
+    pub cut_accepted : (next_call l os (copy j a e)).refusal ≡ 0
     cut_accepted = call_by_lengths l b accepted os (copy j a e) ∙ ap ground_of led.is
 
     whole : Taken os (copy j a e)

@@ -73,7 +73,7 @@ counted_cond false n = refl
 
 -- ---- after an accepted opening and any list of calls, refused ones included
 
-module _ (l : Lending) (b : Bytes l) (accepted : (opening_of l).ground ≡ 0) (os : List Call) where
+module _ (l : Lending) (b : Bytes l) (accepted : (opening_of l).refusal ≡ 0) (os : List Call) where
   abbrev opens : Opened l.formats l.schema l.sources l.tables l.keep l.gaps l.parts (opening_of l)
   opens = runs l b accepted
 
@@ -109,7 +109,7 @@ module _ (l : Lending) (b : Bytes l) (accepted : (opening_of l).ground ≡ 0) (o
   running_nulls = nulls_by_lengths l b accepted os ∙ ap (counted_if (keeps_in l)) (sym (nulls_is l b accepted os)) ∙ counted_cond (keeps_in l) (nulls_booked l os)
 
   -- ONE CALL MORE that is accepted raises it by the nulls that the call enters ..
-  pub call_counters : (o : Call) → (next_call l os o).ground ≡ 0
+  pub call_counters : (o : Call) → (next_call l os o).refusal ≡ 0
       → walk.nulls (next_call l os o).counters 0
       ≡ walk.nulls (after_calls l os).counters 0 + cond (keeps_in l) (nulls_entered (type_in l) (keeps_in l) (sources_in l) (columns_in l) o) 0
   call_counters o h =
@@ -121,7 +121,7 @@ module _ (l : Lending) (b : Bytes l) (accepted : (opening_of l).ground ≡ 0) (o
 
       go : {p : Try (Destination (type_in l))} {a : After}
           → Answers (lent_of l) (type_in l) (sources_in l) (columns_in l) opens.join (keeps_in l) (opening_of l).counters opens.memory o (reached_by l os) (after_calls l os).counters (after_calls l os).room p a
-          → a.ground ≡ 0
+          → a.refusal ≡ 0
           → walk.nulls a.counters 0 ≡ walk.nulls (after_calls l os).counters 0 + counted_if (keeps_in l) (nulls_entered (type_in l) (keeps_in l) (sources_in l) (columns_in l) o)
       go (made d' a e r did) q =
           r.holds.nulls_are
@@ -130,7 +130,7 @@ module _ (l : Lending) (b : Bytes l) (accepted : (opening_of l).ground ≡ 0) (o
       go (not_made g a e p c s) q = absurd (omega (arith, e, q, p))
 
   -- .. A COPY BY THE ZERO BITS OF ITS RANGE, where the root keeps nulls, else by none
-  pub copy_counters : (j a e : ℕ) → (next_call l os (copy j a e)).ground ≡ 0 → keeps_in l ≡ true
+  pub copy_counters : (j a e : ℕ) → (next_call l os (copy j a e)).refusal ≡ 0 → keeps_in l ≡ true
       → walk.nulls (next_call l os (copy j a e)).counters 0 ≡ walk.nulls (after_calls l os).counters 0 + nulls_in (ok (columns_in l j).valid) ((columns_in l j).off + a) (e - a)
   copy_counters j a e h k =
       call_counters (copy j a e) h
@@ -142,7 +142,7 @@ module _ (l : Lending) (b : Bytes l) (accepted : (opening_of l).ground ≡ 0) (o
       → length names ≡ 2 * buffers_before (lent_of l) l.tables.buffers (after_calls l os).counters (after_calls l os).room base (parts.nodes_of (lent_of l).plan)
       → finishing_of l os base lengths nulls places names
       ≡ record {
-        ground = 0;
+        refusal = 0;
         lengths = length_table (lent_of l) l.tables.buffers (after_calls l os).counters (after_calls l os).room base;
         nulls = null_table (lent_of l) l.tables.buffers (after_calls l os).counters (after_calls l os).room base;
         places = place_table (lent_of l) l.tables.buffers (after_calls l os).counters (after_calls l os).room base;

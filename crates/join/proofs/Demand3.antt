@@ -19,7 +19,7 @@ use Rattle.join.proofs.Lengths.{book_is, in_book}
 use Rattle.join.proofs.Demand2.{finished_built, behind_body}
 
 -- after an accepted opening and any list of calls, refused ones included
-module _ (l : Lending) (b : Bytes l) (accepted : (opening_of l).ground ≡ 0) (os : List Call) where
+module _ (l : Lending) (b : Bytes l) (accepted : (opening_of l).refusal ≡ 0) (os : List Call) where
   abbrev opens : Opened l.formats l.schema l.sources l.tables l.keep l.gaps l.parts (opening_of l)
   opens = runs l b accepted
 

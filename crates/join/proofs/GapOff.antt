@@ -18,7 +18,7 @@ use Rattle.join.proofs.Demand2.{built_at, behind_body}
 
 -- ---- a whole join: after an accepted opening with the choice off, and any list of calls, refused ones included
 
-module _ (l : Lending) (b : Bytes l) (accepted : (opening_of l).ground ≡ 0) (off : l.gaps ≡ false) (os : List Call) where
+module _ (l : Lending) (b : Bytes l) (accepted : (opening_of l).refusal ≡ 0) (off : l.gaps ≡ false) (os : List Call) where
   -- the Rust's destination
   abbrev pub rust_reached : Destination (type_in l)
   rust_reached = foldl (λ d o. after (rust_perform (type_in l) (sources_in l) (columns_in l) o d) d) (first l) (carried_out l os)

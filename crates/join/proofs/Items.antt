@@ -130,31 +130,31 @@ module _ (x : Lent) (t : Ty) (m : ℕ) (ss : ℕ → Column t) (join : Joined x 
     stopped : (g' p' g p : ℕ) → 0 < g' → g ≡ g' → p ≡ p' → Comes (stop g') p' g p
 
   comes_in_turn : (b0 s0 : List ℕ) (os : List Call) (k : ℕ) (d : Destination t) (counters room : List ℕ) → Runs d counters room
-      → Comes (in_turn x.plan x.parts t keep m ss os (held t d)) (place_in x.plan x.parts t keep m ss os k (held t d)) (carried x b0 s0 k counters room os).ground (carried x b0 s0 k counters room os).place
+      → Comes (in_turn x.plan x.parts t keep m ss os (held t d)) (place_in x.plan x.parts t keep m ss os k (held t d)) (carried x b0 s0 k counters room os).refusal (carried x b0 s0 k counters room os).place
   unfolding carried
   comes_in_turn b0 s0 [] k d counters room run = taken _ _ _ refl refl
   comes_in_turn b0 s0 (o ∷ os) k d counters room run =
       go (order_step_lem x t m ss join keep c0 μ0 o d counters room run) (answer_is x t m ss join keep c0 μ0 d counters room run o) (λ d' c r q. comes_in_turn b0 s0 os (suc k) d' c r q)
     where
       go : {p : Try (Destination t)} {s : Try Counts} {a : After} → Answers x t m ss join keep c0 μ0 o d counters room p a → map_try (held t) p ≡ s
-          → ((d' : Destination t) (c r : List ℕ) → Runs d' c r → Comes (in_turn x.plan x.parts t keep m ss os (held t d')) (place_in x.plan x.parts t keep m ss os (suc k) (held t d')) (carried x b0 s0 (suc k) c r os).ground (carried x b0 s0 (suc k) c r os).place)
+          → ((d' : Destination t) (c r : List ℕ) → Runs d' c r → Comes (in_turn x.plan x.parts t keep m ss os (held t d')) (place_in x.plan x.parts t keep m ss os (suc k) (held t d')) (carried x b0 s0 (suc k) c r os).refusal (carried x b0 s0 (suc k) c r os).place)
           → Comes (then s (in_turn x.plan x.parts t keep m ss os)) (elim s [ done c' ↦ place_in x.plan x.parts t keep m ss os (suc k) c' | stop g ↦ k ])
-          (cond (eqb a.ground 0) (carried x b0 s0 (suc k) a.counters a.room os) (given_up x b0 s0 a.ground k)).ground
-          (cond (eqb a.ground 0) (carried x b0 s0 (suc k) a.counters a.room os) (given_up x b0 s0 a.ground k)).place
+          (cond (eqb a.refusal 0) (carried x b0 s0 (suc k) a.counters a.room os) (given_up x b0 s0 a.refusal k)).refusal
+          (cond (eqb a.refusal 0) (carried x b0 s0 (suc k) a.counters a.room os) (given_up x b0 s0 a.refusal k)).place
       go (made d' a e r did) q f =
           subst
           (λ (s : Try Counts).
           Comes (then s (in_turn x.plan x.parts t keep m ss os)) (elim s [ done c' ↦ place_in x.plan x.parts t keep m ss os (suc k) c' | stop g ↦ k ])
-          (cond (eqb a.ground 0) (carried x b0 s0 (suc k) a.counters a.room os) (given_up x b0 s0 a.ground k)).ground
-          (cond (eqb a.ground 0) (carried x b0 s0 (suc k) a.counters a.room os) (given_up x b0 s0 a.ground k)).place)
-          q (rw (eq-eqb a.ground 0 e) (f d' a.counters a.room r))
+          (cond (eqb a.refusal 0) (carried x b0 s0 (suc k) a.counters a.room os) (given_up x b0 s0 a.refusal k)).refusal
+          (cond (eqb a.refusal 0) (carried x b0 s0 (suc k) a.counters a.room os) (given_up x b0 s0 a.refusal k)).place)
+          q (rw (eq-eqb a.refusal 0 e) (f d' a.counters a.room r))
       go (not_made g a e l c s) q f =
           subst
           (λ (s : Try Counts).
           Comes (then s (in_turn x.plan x.parts t keep m ss os)) (elim s [ done c' ↦ place_in x.plan x.parts t keep m ss os (suc k) c' | stop g ↦ k ])
-          (cond (eqb a.ground 0) (carried x b0 s0 (suc k) a.counters a.room os) (given_up x b0 s0 a.ground k)).ground
-          (cond (eqb a.ground 0) (carried x b0 s0 (suc k) a.counters a.room os) (given_up x b0 s0 a.ground k)).place)
-          q (rw (ne_eqb a.ground 0 (λ z. omega (arith, z, e, l))) (stopped g k a.ground k l e refl))
+          (cond (eqb a.refusal 0) (carried x b0 s0 (suc k) a.counters a.room os) (given_up x b0 s0 a.refusal k)).refusal
+          (cond (eqb a.refusal 0) (carried x b0 s0 (suc k) a.counters a.room os) (given_up x b0 s0 a.refusal k)).place)
+          q (rw (ne_eqb a.refusal 0 (λ z. omega (arith, z, e, l))) (stopped g k a.refusal k l e refl))
 
   -- an item's answer by lengths
   pub data Said : Try Counts → ℕ → Type 0 where
@@ -176,27 +176,27 @@ module _ (x : Lent) (t : Ty) (m : ℕ) (ss : ℕ → Column t) (join : Joined x 
   module _ (d : Destination t) (counters room : List ℕ) (run : Runs d counters room) where
     -- THE ANSWER AND THE PLACE OF A TRIP, by lengths
     pub trip_comes : (os : List Call)
-        → Comes (item_answer x.plan x.parts t keep m ss (trip os) (held t d)) (trip_place x.plan x.parts t keep m ss os (held t d)) (trip_order x counters room os).ground (trip_order x counters room os).place
+        → Comes (item_answer x.plan x.parts t keep m ss (trip os) (held t d)) (trip_place x.plan x.parts t keep m ss os (held t d)) (trip_order x counters room os).refusal (trip_order x counters room os).place
     unfolding trip_order
     trip_comes os = go (leb (length os) longest)
       where
         go : (b : Bool)
             → Comes (guard b 9 (in_turn x.plan x.parts t keep m ss os (held t d))) (cond b (place_in x.plan x.parts t keep m ss os 0 (held t d)) 0)
-            (cond b (carried x counters room 0 counters room os) (given_up x counters room 9 0)).ground (cond b (carried x counters room 0 counters room os) (given_up x counters room 9 0)).place
+            (cond b (carried x counters room 0 counters room os) (given_up x counters room 9 0)).refusal (cond b (carried x counters room 0 counters room os) (given_up x counters room 9 0)).place
         go true = comes_in_turn counters room os 0 d counters room run
         go false = stopped 9 0 9 0 (omega arith) refl refl
 
     -- THE ANSWER TO AN ITEM
-    pub item_said : (i : Item) → Said (item_answer x.plan x.parts t keep m ss i (held t d)) (item_order x counters room i).ground
+    pub item_said : (i : Item) → Said (item_answer x.plan x.parts t keep m ss i (held t d)) (item_order x counters room i).refusal
     item_said (trip os) = comes_said (trip_comes os)
     item_said (one o) = go (order_step_lem x t m ss join keep c0 μ0 o d counters room run) (answer_is x t m ss join keep c0 μ0 d counters room run o)
       where
-        go : {p : Try (Destination t)} {s : Try Counts} {a : After} → Answers x t m ss join keep c0 μ0 o d counters room p a → map_try (held t) p ≡ s → Said s a.ground
-        go (made d' a e r did) q = subst (λ (s : Try Counts). Said s a.ground) q (accepts (held t d') a.ground e)
-        go (not_made g a e l c s) q = subst (λ (s : Try Counts). Said s a.ground) q (refuses g a.ground l e)
+        go : {p : Try (Destination t)} {s : Try Counts} {a : After} → Answers x t m ss join keep c0 μ0 o d counters room p a → map_try (held t) p ≡ s → Said s a.refusal
+        go (made d' a e r did) q = subst (λ (s : Try Counts). Said s a.refusal) q (accepts (held t d') a.refusal e)
+        go (not_made g a e l c s) q = subst (λ (s : Try Counts). Said s a.refusal) q (refuses g a.refusal l e)
 
   -- an accepted item leaves what its orders leave, a refused one what was there, whatever is lent
-  item_leaves : (counters room : List ℕ) (i : Item) → (item_order x counters room i).ground ≡ 0
+  item_leaves : (counters room : List ℕ) (i : Item) → (item_order x counters room i).refusal ≡ 0
       → ((item_order x counters room i).counters ≡ (ordered_all x counters room (calls_in i)).counters) × ((item_order x counters room i).room ≡ (ordered_all x counters room (calls_in i)).room)
   unfolding ordered_all
   item_leaves counters room (one o) h = (refl, refl)
@@ -209,7 +209,7 @@ module _ (x : Lent) (t : Ty) (m : ℕ) (ss : ℕ → Column t) (join : Joined x 
     pub same_answers : item_grounds x counters room is ≡ answers_to x.plan x.parts t keep m ss is c
 
   -- REFUSED, AN ITEM CHANGES NOTHING
-  pub item_keeps : (counters room : List ℕ) (i : Item) → ((item_order x counters room i).ground ≡ 0 → ⊥) → ((item_order x counters room i).counters ≡ counters) × ((item_order x counters room i).room ≡ room)
+  pub item_keeps : (counters room : List ℕ) (i : Item) → ((item_order x counters room i).refusal ≡ 0 → ⊥) → ((item_order x counters room i).counters ≡ counters) × ((item_order x counters room i).room ≡ room)
   item_keeps counters room (one o) = order_keeps x counters room o
   item_keeps counters room (trip os) = trip_keeps x counters room os
 
@@ -226,11 +226,11 @@ module _ (x : Lent) (t : Ty) (m : ℕ) (ss : ℕ → Column t) (join : Joined x 
       a : After
       a = item_order x counters room i
 
-      go : (s : Try Counts) → item_answer x.plan x.parts t keep m ss i (held t d) ≡ s → Said s a.ground
+      go : (s : Try Counts) → item_answer x.plan x.parts t keep m ss i (held t d) ≡ s → Said s a.refusal
           → ((d' : Destination t) (c r : List ℕ) → Runs d' c r → RanItems is (held t d') c r)
           → ((items_all x a.counters a.room is).counters ≡ (ordered_all x counters room (elim s [ done c' ↦ calls_in i ++ flatly is c' | stop g ↦ flatly is (held t d) ])).counters)
           × ((items_all x a.counters a.room is).room ≡ (ordered_all x counters room (elim s [ done c' ↦ calls_in i ++ flatly is c' | stop g ↦ flatly is (held t d) ])).room)
-          × (◌≡◌ {A = List ℕ} (a.ground ∷ item_grounds x a.counters a.room is) (ground_of s ∷ answers_to x.plan x.parts t keep m ss is (after s (held t d))))
+          × (◌≡◌ {A = List ℕ} (a.refusal ∷ item_grounds x a.counters a.room is) (ground_of s ∷ answers_to x.plan x.parts t keep m ss is (after s (held t d))))
       go (done c') e (accepts y g h) f =
           let l = item_leaves counters room i h in
           let ran = (orders_run x t m ss join keep c0 μ0 (calls_in i) d counters room run).running in

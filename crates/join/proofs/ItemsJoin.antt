@@ -66,7 +66,7 @@ module _ (t : Ty) (keep : Bool) (m : ℕ) (ss : ℕ → Column t) (plan parts : 
 
 -- DEMAND 1: REFUSED, AN ITEM CHANGES NOTHING, whatever it is lent: `item-keeps` (Items.antt)
 
-module _ (l : Lending) (b : Bytes l) (accepted : (opening_of l).ground ≡ 0) (is : List Item) where
+module _ (l : Lending) (b : Bytes l) (accepted : (opening_of l).refusal ≡ 0) (is : List Item) where
   abbrev opens : Opened l.formats l.schema l.sources l.tables l.keep l.gaps l.parts (opening_of l)
   opens = runs l b accepted
 
@@ -102,7 +102,7 @@ module _ (l : Lending) (b : Bytes l) (accepted : (opening_of l).ground ≡ 0) (i
   items_held_lem = held_is l b accepted (calls_carried l is) ∙ sym (items_flat (lent_of l).plan l.parts (type_in l) (keeps_in l) (sources_in l) (columns_in l) is (start_counts l.gaps (type_in l))).flat_held
 
   -- THE ANSWER TO ONE MORE ITEM is 0 where no ground stands, else the number that the first failing order would get, by lengths and limits alone
-  pub item_answered : (i : Item) → (next_item l is i).ground ≡ ground_of (answer_item l is i)
+  pub item_answered : (i : Item) → (next_item l is i).refusal ≡ ground_of (answer_item l is i)
   item_answered i =
       said_ground (lent_of l) (type_in l) (sources_in l) (columns_in l) opens.join (keeps_in l) (opening_of l).counters opens.memory
       (item_said (lent_of l) (type_in l) (sources_in l) (columns_in l) opens.join (keeps_in l) (opening_of l).counters opens.memory (reached_by l (calls_carried l is)) (after_items l is).counters (after_items l is).room running i)
@@ -116,7 +116,7 @@ module _ (l : Lending) (b : Bytes l) (accepted : (opening_of l).ground ≡ 0) (i
       ∙ ap (trip_place (lent_of l).plan l.parts (type_in l) (keeps_in l) (sources_in l) (columns_in l) os) items_held_lem
 
   -- THE TESTS FOR FOREIGN MEMORY NEVER FIRE: the answer to a trip is 0 to 7, 13, or 9 where it is too long
-  pub trip_never_foreign : (os : List Call) → OrdinaryTrip (type_in l) (keeps_in l) (sources_in l) (columns_in l) (lent_of l).plan l.parts (next_item l is (trip os)).ground
+  pub trip_never_foreign : (os : List Call) → OrdinaryTrip (type_in l) (keeps_in l) (sources_in l) (columns_in l) (lent_of l).plan l.parts (next_item l is (trip os)).refusal
   trip_never_foreign os =
       subst (OrdinaryTrip (type_in l) (keeps_in l) (sources_in l) (columns_in l) (lent_of l).plan l.parts) (sym (item_answered (trip os)))
       (trip_among (type_in l) (keeps_in l) (sources_in l) (columns_in l) (lent_of l).plan l.parts os (held_items l is))
@@ -160,7 +160,7 @@ module _ (l : Lending) (b : Bytes l) (accepted : (opening_of l).ground ≡ 0) (i
       → length names ≡ 2 * buffers_before (lent_of l) l.tables.buffers (after_items l is).counters (after_items l is).room base (nodes_of (lent_of l).plan)
       → finishing_items l is base lengths nulls places names
       ≡ record {
-        ground = 0;
+        refusal = 0;
         lengths = length_table (lent_of l) l.tables.buffers (after_items l is).counters (after_items l is).room base;
         nulls = null_table (lent_of l) l.tables.buffers (after_items l is).counters (after_items l is).room base;
         places = place_table (lent_of l) l.tables.buffers (after_items l is).counters (after_items l is).room base;
@@ -174,7 +174,7 @@ module _ (l : Lending) (b : Bytes l) (accepted : (opening_of l).ground ≡ 0) (i
       → length names ≡ 2 * buffers_before (lent_of l) l.tables.buffers c r base (nodes_of (lent_of l).plan)
       → finishing (lent_of l) l.tables.buffers c r base lengths nulls places names
       ≡ record {
-        ground = 0;
+        refusal = 0;
         lengths = length_table (lent_of l) l.tables.buffers c r base;
         nulls = null_table (lent_of l) l.tables.buffers c r base;
         places = place_table (lent_of l) l.tables.buffers c r base;

@@ -135,7 +135,7 @@ module _ (plan parts plan' parts' : List ℕ) {t t' : Ty} (w : Wider t t') (m : 
 
 -- ---- two joins, narrow and wide
 
-module _ (n w : Lending) (bytes_n : Bytes n) (bytes_w : Bytes w) (accepted_n : (opening_of n).ground ≡ 0) (accepted-w : (opening_of w).ground ≡ 0)
+module _ (n w : Lending) (bytes_n : Bytes n) (bytes_w : Bytes w) (accepted_n : (opening_of n).refusal ≡ 0) (accepted-w : (opening_of w).refusal ≡ 0)
     (d : Wider (type_in n) (type_in w)) (same_count : sources_in n ≡ sources_in w) (same_choice : n.keep ≡ w.keep) (same_gaps : n.gaps ≡ w.gaps) (again : Again d (sources_in n) (columns_in n) (columns_in w)) where
   -- the accepted items of a list, made again on the wide join
   pub record WideItems (is : List Item) : Type 0 where
@@ -160,9 +160,9 @@ module _ (n w : Lending) (bytes_n : Bytes n) (bytes_w : Bytes w) (accepted_n : (
       }
 
 -- BOTH: where room is enough, the opening and every accepted item are accepted again, and the rows are the same
-module _ (n w : Lending) (bytes_n : Bytes n) (bytes_w : Bytes w) (accepted_n : (opening_of n).ground ≡ 0) (d : Wider (type_in n) (type_in w)) (stored : StoredWider n w)
+module _ (n w : Lending) (bytes_n : Bytes n) (bytes_w : Bytes w) (accepted_n : (opening_of n).refusal ≡ 0) (d : Wider (type_in n) (type_in w)) (stored : StoredWider n w)
     (again : Again d (sources_in n) (columns_in n) (columns_in w)) (same_choice : n.keep ≡ w.keep) (same_gaps : n.gaps ≡ w.gaps) (small : length w.room ≤ ceiling)
-    (no_13 : (opening_of w).ground ≡ 13 → ⊥) (no_14 : (opening_of w).ground ≡ 14 → ⊥) where
+    (no_13 : (opening_of w).refusal ≡ 13 → ⊥) (no_14 : (opening_of w).refusal ≡ 14 → ⊥) where
   pub items_made_again : (is : List Item) → No13 (grounds_items w (items_accepted n is))
       → WideItems n w bytes_n bytes_w accepted_n (opens_again n w bytes_n bytes_w accepted_n d stored again same_choice same_gaps small no_13 no_14) d stored.same_count same_choice same_gaps again is
   items_made_again = items_wider n w bytes_n bytes_w accepted_n (opens_again n w bytes_n bytes_w accepted_n d stored again same_choice same_gaps small no_13 no_14) d stored.same_count same_choice same_gaps again

@@ -52,7 +52,7 @@ module _ (plan parts : List ℕ) (t : Ty) (keep : Bool) (m : ℕ) (ss : ℕ → 
 
 -- ---- after an accepted opening and any list of calls, refused ones included
 
-module _ (l : Lending) (b : Bytes l) (accepted : (opening_of l).ground ≡ 0) where
+module _ (l : Lending) (b : Bytes l) (accepted : (opening_of l).refusal ≡ 0) where
   abbrev opens : Opened l.formats l.schema l.sources l.tables l.keep l.gaps l.parts (opening_of l)
   opens = runs l b accepted
 
@@ -90,7 +90,7 @@ module _ (l : Lending) (b : Bytes l) (accepted : (opening_of l).ground ≡ 0) wh
         ∙ ap (counts_after (lent_of l).plan l.parts (type_in l) (keeps_in l) (sources_in l) (columns_in l) os) starts
 
     -- THE ANSWER TO ONE MORE CALL
-    pub call_by_lengths : (o : Call) → (next_call l os o).ground ≡ ground_of (call_answer l os o)
+    pub call_by_lengths : (o : Call) → (next_call l os o).refusal ≡ ground_of (call_answer l os o)
     call_by_lengths o =
         ground_is (lent_of l) (type_in l) (sources_in l) (columns_in l) opens.join (keeps_in l) (opening_of l).counters opens.memory (reached_by l os) (after_calls l os).counters (after_calls l os).room
         (orders_after l.formats l.schema l.sources l.tables l.keep l.gaps l.parts (opening_of l) opens os).running o

@@ -139,15 +139,15 @@ module _ (l : Lending) (b : Bytes l) (ok : sources_ground l.formats l.schema l.t
 
   module _ (small : length l.room ≤ ceiling) where
     -- 14 STANDS where the parts do not lie well ..
-    pub fourteen : (PartsLie l → ⊥) → (opening_of l).ground ≡ 14
+    pub fourteen : (PartsLie l → ⊥) → (opening_of l).refusal ≡ 14
     fourteen never = go placed refl
       where
-        go : (z : Bool) → placed ≡ z → (opening_of l).ground ≡ 14
+        go : (z : Bool) → placed ≡ z → (opening_of l).refusal ≡ 14
         go true e = absurd (never (placed_lie e))
         go false e = parts_next l (le-leb (length l.room) ceiling small) (eq-eqb _ 0 ok) e
 
     -- .. AND ONLY THERE: else what is answered is the dictionaries' 6 or 8, 13, or 0
-    pub not_fourteen : PartsLie l → (opening_of l).ground ≡ ground_of (open_in (lent_of l).plan l.parts l.gaps (type_in l) l.keep (sources_in l) (columns_in l))
+    pub not_fourteen : PartsLie l → (opening_of l).refusal ≡ ground_of (open_in (lent_of l).plan l.parts l.gaps (type_in l) l.keep (sources_in l) (columns_in l))
     not_fourteen h =
         opening_ground l.formats l.schema l.sources l.tables l.keep l.gaps l.parts l.plan l.counters l.room b.body_bytes b.room_bytes small ok (lie_placed h)
 

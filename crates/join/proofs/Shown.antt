@@ -18,7 +18,7 @@ use Rattle.join.specs.Join.{Lending, Bytes, sources_in, tree_in, type_in, column
 use Rattle.join.proofs.Opens.{runs}
 
 -- after an accepted opening and any list of calls, refused ones included
-module _ (l : Lending) (b : Bytes l) (accepted : (opening_of l).ground ≡ 0) (os : List Call) where
+module _ (l : Lending) (b : Bytes l) (accepted : (opening_of l).refusal ≡ 0) (os : List Call) where
   abbrev opens : Opened l.formats l.schema l.sources l.tables l.keep l.gaps l.parts (opening_of l)
   opens = runs l b accepted
 

@@ -185,11 +185,11 @@ wide_lie =
 
 -- ---- both openings are accepted, and the copy
 
-narrow_opens : (opening_of narrow).ground ≡ 0
+narrow_opens : (opening_of narrow).refusal ≡ 0
 unfolding ty_of kind_at Tree.code_of Code.code_of bit encode
 narrow_opens = not_fourteen narrow narrow_bytes narrow_taken (omega arith) narrow_lie ∙ rw (narrow_words.size_is 0, narrow_words.size_is 1, narrow_words.size_is 2) refl
 
-wide_opens : (opening_of wide).ground ≡ 0
+wide_opens : (opening_of wide).refusal ≡ 0
 unfolding ty_of kind_at Tree.code_of Code.code_of bit encode
 wide_opens = not_fourteen wide wide_bytes wide_taken (omega arith) wide_lie ∙ rw (wide_words.size_is 0, wide_words.size_is 1, wide_words.size_is 2) refl
 
@@ -261,15 +261,15 @@ stored =
 pub record Premises (n w : Lending) (os : List Call) : Type 0 where
   pub bytes_n : Bytes n
   pub bytes_w : Bytes w
-  pub accepted_n : (opening_of n).ground ≡ 0
+  pub accepted_n : (opening_of n).refusal ≡ 0
   pub type_wider : Wider (type_in n) (type_in w)
   pub tables_wider : StoredWider n w
   pub again : Again type_wider (sources_in n) (columns_in n) (columns_in w)
   pub same_choice : n.keep ≡ w.keep
   pub same_gaps : n.gaps ≡ w.gaps
   pub small_room : length w.room ≤ Grounds.ceiling
-  pub no_13 : (opening_of w).ground ≡ 13 → ⊥
-  pub no_14 : (opening_of w).ground ≡ 14 → ⊥
+  pub no_13 : (opening_of w).refusal ≡ 13 → ⊥
+  pub no_14 : (opening_of w).refusal ≡ 14 → ⊥
   pub calls_no_13 : (i : ℕ) → get_or (grounds_in w (carried_out n os)) i 0 ≡ 13 → ⊥
 
 narrow_carries : carried_out narrow calls ≡ calls

@@ -19,9 +19,9 @@ use Rattle.join.proofs.WiderLengths.{wide_obey}
 use Rattle.join.proofs.WiderLent as lent
 
 -- "room is enough where neither 13 nor 14 stands"; the room is a body, of at most 2^63 - 1 bytes
-module _ (n w : Lending) (bytes_n : Bytes n) (bytes_w : Bytes w) (accepted_n : (opening_of n).ground ≡ 0) (stored : StoredWider n w)
+module _ (n w : Lending) (bytes_n : Bytes n) (bytes_w : Bytes w) (accepted_n : (opening_of n).refusal ≡ 0) (stored : StoredWider n w)
     (wide : Wide (sources_in n) (type_in n) (type_in w) (columns_in n) (columns_in w)) (same_choice : n.keep ≡ w.keep) (same_gaps : n.gaps ≡ w.gaps)
-    (small : length w.room ≤ ceiling) (no_13 : (opening_of w).ground ≡ 13 → ⊥) (no_14 : (opening_of w).ground ≡ 14 → ⊥) where
+    (small : length w.room ≤ ceiling) (no_13 : (opening_of w).refusal ≡ 13 → ⊥) (no_14 : (opening_of w).refusal ≡ 14 → ⊥) where
   -- neither 9, 10, 11 nor 12 stands of the wide sources
   taken : sources_answer w ≡ 0
   taken = sources_taken n w stored (runs n bytes_n accepted_n).accepted (wide_obey n w bytes_n bytes_w accepted_n (to_wider wide) stored.same_count (to_again wide))
@@ -30,7 +30,7 @@ module _ (n w : Lending) (bytes_n : Bytes n) (bytes_w : Bytes w) (accepted_n : (
   lends = record { in_limits = λ e. omega (arith, taken, e); of_types = λ e. omega (arith, taken, e); alike = λ e. omega (arith, taken, e); in_body_lem = stored.in_body_lem }
 
   -- THE OPENING IS ACCEPTED
-  pub opens_again : (opening_of w).ground ≡ 0
+  pub opens_again : (opening_of w).refusal ≡ 0
   opens_again = lent.opens_again n w bytes_n bytes_w accepted_n stored.same_count wide lends same_choice same_gaps small no_13 no_14
 
   -- AND ALL THE ACCEPTED CALLS, each answered 0, with the same rows

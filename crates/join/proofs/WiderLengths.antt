@@ -52,7 +52,7 @@ tested_only (done x) true s e = opens_wide refl
 tested_only (done x) false s e = no_room refl
 tested_only (stop g) b s e = absurd (let z : ◌≡◌ {A = ℕ} 0 1 = cc e in omega arith)
 
-module _ (n w : Lending) (bytes_n : Bytes n) (bytes_w : Bytes w) (accepted_n : (opening_of n).ground ≡ 0) (d : Wider (type_in n) (type_in w)) (same_count : sources_in n ≡ sources_in w)
+module _ (n w : Lending) (bytes_n : Bytes n) (bytes_w : Bytes w) (accepted_n : (opening_of n).refusal ≡ 0) (d : Wider (type_in n) (type_in w)) (same_count : sources_in n ≡ sources_in w)
     (again : Again d (sources_in n) (columns_in n) (columns_in w)) where
   -- the wide columns are sources
   pub wide_obey : (s : ℕ) → s < sources_in w → Source (type_in w) (columns_in w s)
@@ -81,7 +81,7 @@ module _ (n w : Lending) (bytes_n : Bytes n) (bytes_w : Bytes w) (accepted_n : (
 
     -- IT IS ACCEPTED, or 13 stands: a room of at most 2^63 - 1 bytes, where 14 does not stand
     pub wide_opens : length w.room ≤ ceiling → room_placed w.formats w.schema w.sources w.tables w.keep w.gaps w.parts w.plan w.counters w.room ≡ true
-        → OpensWide (opening_of w).ground
+        → OpensWide (opening_of w).refusal
     wide_opens small placed =
         subst OpensWide (sym (opening_ground w.formats w.schema w.sources w.tables w.keep w.gaps w.parts w.plan w.counters w.room bytes_w.body_bytes bytes_w.room_bytes small taken-w placed))
         (tested_only (open_data (type_in w) (sources_in w) (λ j. (columns_in w j).body)) (open_fits (lent_of w).plan w.parts (type_in w) 0 (sources_in w) (λ j. (columns_in w j).body) (start w.gaps (type_in w) w.keep (sources_in w) (columns_in w))) (start w.gaps (type_in w) w.keep (sources_in w) (columns_in w)) wide_done)
@@ -89,7 +89,7 @@ module _ (n w : Lending) (bytes_n : Bytes n) (bytes_w : Bytes w) (accepted_n : (
 -- ---- THE CALLS
 
 -- n narrow, w wide; both openings are accepted
-module _ (n w : Lending) (bytes_n : Bytes n) (bytes_w : Bytes w) (accepted_n : (opening_of n).ground ≡ 0) (accepted-w : (opening_of w).ground ≡ 0)
+module _ (n w : Lending) (bytes_n : Bytes n) (bytes_w : Bytes w) (accepted_n : (opening_of n).refusal ≡ 0) (accepted-w : (opening_of w).refusal ≡ 0)
     (d : Wider (type_in n) (type_in w)) (same_count : sources_in n ≡ sources_in w) (same_choice : n.keep ≡ w.keep) (same_gaps : n.gaps ≡ w.gaps) (again : Again d (sources_in n) (columns_in n) (columns_in w)) where
   same_keeps : keeps_in n ≡ keeps_in w
   same_keeps = keeps_wider n.keep (sources_in n) (columns_in n) (columns_in w) again.each ∙ ap₂ (λ u k. keeps u k (columns_in w)) same_choice same_count

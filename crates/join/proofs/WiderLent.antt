@@ -18,9 +18,9 @@ use Rattle.join.proofs.Wide.{to_wider, to_again}
 use Rattle.join.proofs.WiderLengths.{wide_sources, wide_opens, opens_then, stored_wider}
 
 -- "room is enough where neither 13 nor 14 stands"; the room is a body, of at most 2^63 - 1 bytes
-module _ (n w : Lending) (bytes_n : Bytes n) (bytes_w : Bytes w) (accepted_n : (opening_of n).ground ≡ 0) (same_count : sources_in n ≡ sources_in w)
+module _ (n w : Lending) (bytes_n : Bytes n) (bytes_w : Bytes w) (accepted_n : (opening_of n).refusal ≡ 0) (same_count : sources_in n ≡ sources_in w)
     (wide : Wide (sources_in n) (type_in n) (type_in w) (columns_in n) (columns_in w)) (lends : Lendable w) (same_choice : n.keep ≡ w.keep) (same_gaps : n.gaps ≡ w.gaps)
-    (small : length w.room ≤ ceiling) (no_13 : (opening_of w).ground ≡ 13 → ⊥) (no_14 : (opening_of w).ground ≡ 14 → ⊥) where
+    (small : length w.room ≤ ceiling) (no_13 : (opening_of w).refusal ≡ 13 → ⊥) (no_14 : (opening_of w).refusal ≡ 14 → ⊥) where
   abbrev again : Again (to_wider wide) (sources_in n) (columns_in n) (columns_in w)
   again = to_again wide
 
@@ -28,11 +28,11 @@ module _ (n w : Lending) (bytes_n : Bytes n) (bytes_w : Bytes w) (accepted_n : (
   taken = wide_sources n w bytes_n bytes_w accepted_n (to_wider wide) same_count again lends
 
   -- THE OPENING IS ACCEPTED
-  pub opens_again : (opening_of w).ground ≡ 0
+  pub opens_again : (opening_of w).refusal ≡ 0
   opens_again = go (placed w) refl
     where
-      go : (b : Bool) → placed w ≡ b → (opening_of w).ground ≡ 0
-      go true e = opens_then (opening_of w).ground (wide_opens n w bytes_n bytes_w accepted_n (to_wider wide) same_count again taken small e) no_13
+      go : (b : Bool) → placed w ≡ b → (opening_of w).refusal ≡ 0
+      go true e = opens_then (opening_of w).refusal (wide_opens n w bytes_n bytes_w accepted_n (to_wider wide) same_count again taken small e) no_13
       go false e = absurd (no_14 (parts_next w (le-leb (length w.room) ceiling small) (eq-eqb _ 0 taken) e))
 
   -- AND ALL THE ACCEPTED CALLS, each answered 0, with the same rows

@@ -15,14 +15,14 @@ use Rattle.join.proofs.Wide.{from_again}
 use Rattle.join.proofs.Wider as wider
 
 -- the room is a body, of at most 2^63 - 1 bytes
-module _ (n w : Lending) (bytes_n : Bytes n) (bytes_w : Bytes w) (accepted_n : (opening_of n).ground ≡ 0) (d : Wider (type_in n) (type_in w)) (stored : StoredWider n w)
+module _ (n w : Lending) (bytes_n : Bytes n) (bytes_w : Bytes w) (accepted_n : (opening_of n).refusal ≡ 0) (d : Wider (type_in n) (type_in w)) (stored : StoredWider n w)
     (again : Again d (sources_in n) (columns_in n) (columns_in w)) (same_choice : n.keep ≡ w.keep) (same_gaps : n.gaps ≡ w.gaps) (small : length w.room ≤ ceiling)
-    (no_13 : (opening_of w).ground ≡ 13 → ⊥) (no_14 : (opening_of w).ground ≡ 14 → ⊥) where
+    (no_13 : (opening_of w).refusal ≡ 13 → ⊥) (no_14 : (opening_of w).refusal ≡ 14 → ⊥) where
   abbrev wide : Wide (sources_in n) (type_in n) (type_in w) (columns_in n) (columns_in w)
   wide = from_again (sources_in n) d (columns_in n) (columns_in w) again
 
   -- THE OPENING IS ACCEPTED
-  pub opens_again : (opening_of w).ground ≡ 0
+  pub opens_again : (opening_of w).refusal ≡ 0
   opens_again = wider.opens_again n w bytes_n bytes_w accepted_n stored wide same_choice same_gaps small no_13 no_14
 
   -- AND ALL THE ACCEPTED CALLS, each answered 0, with the same rows

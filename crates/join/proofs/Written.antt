@@ -19,7 +19,7 @@ use Rattle.refinement.proofs.opening.Written.{opening_fine, opening_sound, openi
 use Rattle.join.specs.Join.{Lending, Bytes, opening_of, lent_of, after_calls, next_call}
 use Rattle.join.proofs.Opens.{runs}
 
-module _ (l : Lending) (b : Bytes l) (accepted : (opening_of l).ground ≡ 0) where
+module _ (l : Lending) (b : Bytes l) (accepted : (opening_of l).refusal ≡ 0) where
   -- THE OPENING: every byte that is in no part's used length is as lent
   pub opening_adds : OnlyUsed (lent_of l).plan l.parts l.room (opening_of l).counters (opening_of l).room
   opening_adds = opening_writes l.formats l.schema l.sources l.tables l.keep l.gaps l.parts l.plan l.counters l.room accepted b.body_bytes b.room_bytes
@@ -39,7 +39,7 @@ module _ (l : Lending) (b : Bytes l) (accepted : (opening_of l).ground ≡ 0) wh
         (opening_fine l.formats l.schema l.sources l.tables l.keep l.gaps l.parts l.plan l.counters l.room accepted)
 
     -- ONE MORE CALL, accepted: every byte that no part has gained is as it was, and so is every bit of the rows before
-    pub call_adds_lem : (o : Call) → (next_call l os o).ground ≡ 0
+    pub call_adds_lem : (o : Call) → (next_call l os o).refusal ≡ 0
         → OnlyAdds (lent_of l).plan l.parts (after_calls l os).counters (after_calls l os).room (next_call l os o).counters (next_call l os o).room
     call_adds_lem o h =
         let r = (orders_after l.formats l.schema l.sources l.tables l.keep l.gaps l.parts (opening_of l) opens os).running in
@@ -48,11 +48,11 @@ module _ (l : Lending) (b : Bytes l) (accepted : (opening_of l).ground ≡ 0) wh
 -- ---- NOTHING IS LEFT OUT: an answer of 0 says that every write was made
 
 -- AN OPENING, whatever is lent
-pub opening_complete : (l : Lending) → Bytes l → (opening_of l).ground ≡ 0 → AllMade (lent_of l).plan l.parts (length l.room) (open_walk_of (lent_of l) (replicate 96 0)).log
+pub opening_complete : (l : Lending) → Bytes l → (opening_of l).refusal ≡ 0 → AllMade (lent_of l).plan l.parts (length l.room) (open_walk_of (lent_of l) (replicate 96 0)).log
 opening_complete l b h = opening_made l.formats l.schema l.sources l.tables l.keep l.gaps l.parts l.plan l.counters l.room h b.body_bytes
 
 -- AN ORDER, whatever plan, parts, sources, counters and room it is lent: bodies are bytes and counters numbers of 64 bits
-module _ (x : Lent) (body : AllBelow 256 x.body) (counters room : List ℕ) (numbers : Counters counters) (o : Call) (answer : (ordered x counters room o).ground ≡ 0) where
+module _ (x : Lent) (body : AllBelow 256 x.body) (counters room : List ℕ) (numbers : Counters counters) (o : Call) (answer : (ordered x counters room o).refusal ≡ 0) where
   pub order_complete : AllMade x.plan x.parts (length room) (walk_of x counters o).log
   order_complete = order_made x body counters room numbers o answer
 

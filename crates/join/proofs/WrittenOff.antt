@@ -123,9 +123,9 @@ module _ (x : Lent) where
 
 module _ (x : Lent) (sound : plan_sound x.plan ≡ true) where
   order_off : (counters room : List ℕ) (o : Call) → Fine counters → Off x.plan counters → Off x.plan (ordered x counters room o).counters
-  order_off counters room o f z = go (eqb (ordered x counters room o).ground 0) refl
+  order_off counters room o f z = go (eqb (ordered x counters room o).refusal 0) refl
     where
-      go : (b : Bool) → eqb (ordered x counters room o).ground 0 ≡ b → Off x.plan (ordered x counters room o).counters
+      go : (b : Bool) → eqb (ordered x counters room o).refusal 0 ≡ b → Off x.plan (ordered x counters room o).counters
       go true e =
           let s = accepted x counters room o (eqb-true _ _ e) in
           subst (Off x.plan) (sym s.counters_are) (λ i q. ((walk_adds x sound counters o).added f s.no_ground).longer.gap_off refl i q (z i q))
@@ -138,7 +138,7 @@ module _ (x : Lent) (sound : plan_sound x.plan ≡ true) where
 
 -- ---- a whole join
 
-module _ (l : Lending) (b : Bytes l) (accepted-l : (opening_of l).ground ≡ 0) (off : l.gaps ≡ false) where
+module _ (l : Lending) (b : Bytes l) (accepted-l : (opening_of l).refusal ≡ 0) (off : l.gaps ≡ false) where
   passed : (length l.room ≤ ceiling) × (sources_ground l.formats l.schema l.tables l.sources ≡ 0) × (room_placed l.formats l.schema l.sources l.tables l.keep l.gaps l.parts l.plan l.counters l.room ≡ true)
   passed = tests l.formats l.schema l.sources l.tables l.keep l.gaps l.parts l.plan l.counters l.room accepted-l
 
@@ -164,13 +164,13 @@ module _ (l : Lending) (b : Bytes l) (accepted-l : (opening_of l).ground ≡ 0) 
 
   abbrev Picks : Bool → Bool → Opening
   Picks a c =
-      cond a (cond c (record { ground = 0; plan = (lent_of l).plan; counters = walk.counters; room = apply (lent_of l).plan l.parts walk.log l.room }) (kept 13)) (kept walk.ans)
+      cond a (cond c (record { refusal = 0; plan = (lent_of l).plan; counters = walk.counters; room = apply (lent_of l).plan l.parts walk.log l.room }) (kept 13)) (kept walk.ans)
 
-  made : made_of.ground ≡ 0 → (walk.ans ≡ 0) × (made_of.counters ≡ walk.counters)
+  made : made_of.refusal ≡ 0 → (walk.ans ≡ 0) × (made_of.counters ≡ walk.counters)
   unfolding settled
   made = go (eqb walk.ans 0) refl (parts_hold (lent_of l).plan walk.counters l.parts)
     where
-      go : (a : Bool) → eqb walk.ans 0 ≡ a → (c : Bool) → (Picks a c).ground ≡ 0 → (walk.ans ≡ 0) × ((Picks a c).counters ≡ walk.counters)
+      go : (a : Bool) → eqb walk.ans 0 ≡ a → (c : Bool) → (Picks a c).refusal ≡ 0 → (walk.ans ≡ 0) × ((Picks a c).counters ≡ walk.counters)
       go true e true h = (eqb-true _ _ e, refl)
       go true e false h = absurd (omega arith)
       go false e c h = absurd (eqb-false _ _ e h)
@@ -198,7 +198,7 @@ module _ (l : Lending) (b : Bytes l) (accepted-l : (opening_of l).ground ≡ 0) 
     no_last_end p h e = e.chosen (gaps_off h e.runs)
 
     -- ONE MORE CALL, accepted: every byte that no part has gained is as it was, and so is every bit of the rows before
-    pub call_gains : (o : Call) → (next_call l os o).ground ≡ 0
+    pub call_gains : (o : Call) → (next_call l os o).refusal ≡ 0
         → OnlyGains (lent_of l).plan l.parts (after_calls l os).counters (after_calls l os).room (next_call l os o).counters (next_call l os o).room
     call_gains o h =
         let a = call_adds_lem l b accepted-l os o h in

@@ -171,7 +171,7 @@ module _ (plan parts c d : List ℕ) (m : ℕ) (small : m < 2 ^ 63) (within : pa
 
 module _ (x : Lent) (body : AllBelow 256 x.body) (counters room : List ℕ) (top : Counters counters) (bytes-room : AllBelow 256 room)
     (apart : (i b j k : ℕ) → Used x.plan i b → Used x.plan j k → (i ≡ j → b ≡ k → ⊥) → Apart (start_of x.plan x.parts i b) (size_of x.plan x.parts i b) (start_of x.plan x.parts j k) (size_of x.plan x.parts j k)) where
-  by_walk : (o : Call) → (ordered x counters room o).ground ≡ 0 → (K : ℕ → Bool) → ((h : ℕ) → K h ≡ true → gap counters h ≡ 0 → ⊥) → AllAmended (λ h. K h ≡ true) (walk_of x counters o).log
+  by_walk : (o : Call) → (ordered x counters room o).refusal ≡ 0 → (K : ℕ → Bool) → ((h : ℕ) → K h ≡ true → gap counters h ≡ 0 → ⊥) → AllAmended (λ h. K h ≡ true) (walk_of x counters o).log
       → OnlyAmends (λ h. K h ≡ true) x.plan x.parts counters room (ordered x counters room o).counters (ordered x counters room o).room
   by_walk o answer K some a =
       let lent = walked x counters room o answer in
@@ -181,7 +181,7 @@ module _ (x : Lent) (body : AllBelow 256 x.body) (counters room : List ℕ) (top
       (only_amends x.plan x.parts counters (walk_of x counters o).counters (length room) lent.small made.within made.holds lent.long K some apart adds.longer.rows_grow (walk_of x counters o).log room refl bytes-room
       (walk_used x lent.sound body counters o) adds.behind a)
 
-  copy_only : (s a e : ℕ) → (ordered x counters room (copy s a e)).ground ≡ 0
+  copy_only : (s a e : ℕ) → (ordered x counters room (copy s a e)).refusal ≡ 0
       → OnlyGains x.plan x.parts counters room (ordered x counters room (copy s a e)).counters (ordered x counters room (copy s a e)).room
   copy_only s a e answer =
       let w =
@@ -189,7 +189,7 @@ module _ (x : Lent) (body : AllBelow 256 x.body) (counters room : List ℕ) (top
       (amended_wide Nowhere (λ h. false ≡ true) (λ h k. absurd k) (walk_of x counters (copy s a e)).log (plain_copy (join_of x s) 8 0 a (e - a) counters).none_over) in
       record { same_length = w.same_length; other_bytes = λ p f. w.other_bytes p f (λ h k. absurd (false≢true k)); earlier_bits = w.earlier_bits }
 
-  nulls_only : (n : ℕ) → (ordered x counters room (nulls n)).ground ≡ 0
+  nulls_only : (n : ℕ) → (ordered x counters room (nulls n)).refusal ≡ 0
       → OnlyAmends (λ h. gap counters h ≡ 2) x.plan x.parts counters room (ordered x counters room (nulls n)).counters (ordered x counters room (nulls n)).room
   nulls_only n answer =
       let sound = (walked x counters room (nulls n) answer).sound in
@@ -205,7 +205,7 @@ module _ (x : Lent) (body : AllBelow 256 x.body) (counters room : List ℕ) (top
 
 -- ---- a whole join: after an accepted opening and any list of calls, refused ones included
 
-module _ (l : Lending) (b : Bytes l) (accepted-l : (opening_of l).ground ≡ 0) (os : List Call) where
+module _ (l : Lending) (b : Bytes l) (accepted-l : (opening_of l).refusal ≡ 0) (os : List Call) where
   abbrev opens : Opened l.formats l.schema l.sources l.tables l.keep l.gaps l.parts (opening_of l)
   opens = runs l b accepted-l
 
@@ -213,13 +213,13 @@ module _ (l : Lending) (b : Bytes l) (accepted-l : (opening_of l).ground ≡ 0) 
   held = (orders_after l.formats l.schema l.sources l.tables l.keep l.gaps l.parts (opening_of l) opens os).running
 
   -- A COPY MORE, accepted, writes over no run end
-  pub copy_gains : (j a e : ℕ) → (next_call l os (copy j a e)).ground ≡ 0
+  pub copy_gains : (j a e : ℕ) → (next_call l os (copy j a e)).refusal ≡ 0
       → OnlyGains (lent_of l).plan l.parts (after_calls l os).counters (after_calls l os).room (next_call l os (copy j a e)).counters (next_call l os (copy j a e)).room
   copy_gains j a e h =
       copy_only (lent_of l) b.body_bytes (after_calls l os).counters (after_calls l os).room (record { rows_top = (fine l b accepted-l os).rows_top }) held.lies.are_bytes held.placed.apart j a e h
 
   -- A NULL ORDER MORE, accepted, writes over the last run end of run-end nodes whose gap is 2, and over nothing else
-  pub nulls_amend : (n : ℕ) → (next_call l os (nulls n)).ground ≡ 0
+  pub nulls_amend : (n : ℕ) → (next_call l os (nulls n)).refusal ≡ 0
       → OnlyAmends (λ i. gap (after_calls l os).counters i ≡ 2) (lent_of l).plan l.parts (after_calls l os).counters (after_calls l os).room (next_call l os (nulls n)).counters (next_call l os (nulls n)).room
   nulls_amend n h =
       nulls_only (lent_of l) b.body_bytes (after_calls l os).counters (after_calls l os).room (record { rows_top = (fine l b accepted-l os).rows_top }) held.lies.are_bytes held.placed.apart n h

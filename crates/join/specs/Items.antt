@@ -31,17 +31,17 @@ calls_in (trip os) = os
 module _ (x : Lent) where
   abbrev pub item_order : List ℕ → List ℕ → Item → After
   item_order c r (one o) = ordered x c r o
-  item_order c r (trip os) = record { ground = (trip_order x c r os).ground; counters = (trip_order x c r os).counters; room = (trip_order x c r os).room }
+  item_order c r (trip os) = record { refusal = (trip_order x c r os).refusal; counters = (trip_order x c r os).counters; room = (trip_order x c r os).room }
 
   -- ANY LIST OF ITEMS, each getting counters and room as the last one left them
   unfoldable pub items_all : List ℕ → List ℕ → List Item → After
-  items_all c r [] = record { ground = 0; counters = c; room = r }
+  items_all c r [] = record { refusal = 0; counters = c; room = r }
   items_all c r (i ∷ is) = items_all (item_order c r i).counters (item_order c r i).room is
 
   -- one number for each
   unfoldable pub item_grounds : List ℕ → List ℕ → List Item → List ℕ
   item_grounds c r [] = []
-  item_grounds c r (i ∷ is) = (item_order c r i).ground ∷ item_grounds (item_order c r i).counters (item_order c r i).room is
+  item_grounds c r (i ∷ is) = (item_order c r i).refusal ∷ item_grounds (item_order c r i).counters (item_order c r i).room is
 
 -- ---- by lengths alone
 

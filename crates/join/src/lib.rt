@@ -1,1 +1,2 @@
 // Theory: the three demands on whole joins.
+#![tactic(auto)]

@@ -12,11 +12,11 @@ use Rattle.trip.specs.Answer as trip
 use Rattle.trip.proofs.Trip.{place_trip, place_asked}
 use Rattle.lafkuno.specs.Trips.{Carries, Asks}
 
-pub carries : {a : AfterTrip} {e : Ended} {c bytes : List ℕ} {r : ℕ} → Ends a e c bytes → r ≡ e.ground + 256 * e.place → Carries a r c bytes
-carries h q = record { answer = q ∙ ap₂ (λ g p. g + 256 * p) h.ground h.place; counters = h.counters; room = h.room }
+pub carries : {a : AfterTrip} {e : Ended} {c bytes : List ℕ} {r : ℕ} → Ends a e c bytes → r ≡ e.refusal + 256 * e.place → Carries a r c bytes
+carries h q = record { answer = q ∙ ap₂ (λ g p. g + 256 * p) h.refusal h.place; counters = h.counters; room = h.room }
 
-pub asks : {a : AskedTrip} {e : Ended} {c : List ℕ} {r : ℕ} → trip.Asks a e c → r ≡ e.ground + 256 * e.place → Asks a r c
-asks h q = record { answer = q ∙ ap₂ (λ g p. g + 256 * p) h.ground h.place; counters = h.counters }
+pub asks : {a : AskedTrip} {e : Ended} {c : List ℕ} {r : ℕ} → trip.Asks a e c → r ≡ e.refusal + 256 * e.place → Asks a r c
+asks h q = record { answer = q ∙ ap₂ (λ g p. g + 256 * p) h.refusal h.place; counters = h.counters }
 
 -- a place is at most 256
 pub low_place : (x : Lent) (c r : List ℕ) (os : List Call) {e : Ended} {c2 bytes : List ℕ} → Ends (trip_order x c r os) e c2 bytes → e.place ≤ longest

@@ -4,10 +4,10 @@ use Rattle.trip.specs.Trip.{AfterTrip, AskedTrip}
 
 -- the ground, and 256 times the place
 pub record Carries (a : AfterTrip) (r : ℕ) (tally bytes : List ℕ) : Type 0 where
-  pub answer : r ≡ a.ground + 256 * a.place
+  pub answer : r ≡ a.refusal + 256 * a.place
   pub counters : tally ≡ a.counters
   pub room : bytes ≡ a.room
 
 pub record Asks (a : AskedTrip) (r : ℕ) (tally : List ℕ) : Type 0 where
-  pub answer : r ≡ a.ground + 256 * a.place
+  pub answer : r ≡ a.refusal + 256 * a.place
   pub counters : tally ≡ a.counters

@@ -1,4 +1,5 @@
 // The library as calls for other languages (include/lafkuno.h). Every call is defined for whatever it is lent.
+#![tactic(auto)]
 ghost use Rattle.std.specs.Prelude.{◌≡◌, List, [], ℕ};
 ghost use Rattle.clauses.specs.Slices.{was, left};
 ghost use Rattle.walk.specs.State.{nulls};

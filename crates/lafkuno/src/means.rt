@@ -2,7 +2,7 @@
 ghost use Rattle.std.specs.Prelude.{◌≡◌};
 ghost use Rattle.clauses.specs.Slices.{was, left};
 ghost use Rattle.with_capacities.specs.Answer.{lent_tables};
-ghost use Rattle.row_reader.specs.runs.Answers.{ground};
+ghost use Rattle.row_reader.specs.runs.Answers.{refusal};
 ghost use Rattle.aggregates.specs.Report.{mean_report, ratio_report};
 ghost use Rattle.lafkuno.specs.Sums.{flag_of, mean_words, ratio_words, mean_ground, mean_numbers, ratio_ground, ratio_numbers};
 
@@ -72,7 +72,7 @@ pub extern "C" fn lafkuno_mean(
             reading::copy_words(answer, &words);
             0
         }
-        MeanAnswer::Refused(ground) => ground,
+        MeanAnswer::Refused(refusal) => refusal,
     }
 }
 
@@ -108,6 +108,6 @@ pub extern "C" fn lafkuno_ratio(
             reading::copy_words(answer, &words);
             0
         }
-        RatioAnswer::Refused(ground) => ground,
+        RatioAnswer::Refused(refusal) => refusal,
     }
 }

@@ -6,7 +6,7 @@ ghost use Rattle.source_rules.specs.kinds.Rows.{tables_of};
 ghost use Rattle.columns.specs.Grounds.{column_ground};
 ghost use Rattle.array_data.specs.entries.Entries.{column};
 ghost use Rattle.row_reader.specs.Walk.{run_at};
-ghost use Rattle.row_reader.specs.runs.Answers.{read_run, ground, numbers};
+ghost use Rattle.row_reader.specs.runs.Answers.{read_run, refusal, numbers};
 ghost use Rattle.lafkuno.specs.Calls.{open_ground, open_tree, leaf_kind, leaf_number, row_kind, row_numbers, read_kind, read_numbers};
 
 use row_reader::runs;
@@ -70,11 +70,11 @@ pub extern "C" fn lafkuno_open_column(
     ensures room_value { left room ≡ open_tree (was formats) (was schema) (tables_of (was lengths) (was places) (was buffers) (was body)) first n (was room) }
 {
     let mut tree = [0u64; 256];
-    let ground = row_reader::column_reader::open_column(
+    let refusal = row_reader::column_reader::open_column(
         formats, schema, lengths, places, buffers, body, first, n, &mut tree,
     );
-    if ground != 0 {
-        return ground;
+    if refusal != 0 {
+        return refusal;
     }
     if room.len() < 256 {
         return 14;
@@ -137,7 +137,7 @@ fn row_kind(read: RowRead) -> u8
             start: _,
             len: _,
         } => 6,
-        RowRead::Refused(ground) => 16 + ground % 64,
+        RowRead::Refused(refusal) => 16 + refusal % 64,
     }
 }
 
@@ -228,7 +228,7 @@ pub extern "C" fn lafkuno_run_at(
     row: u64,
     answer: &mut [u64],
 ) -> u8
-    ensures value { result ≡ ground (read_run (was formats) (was schema) (tables_of (was lengths) (was places) (was buffers) (was body)) first n row) (was answer) }
+    ensures value { result ≡ refusal (read_run (was formats) (was schema) (tables_of (was lengths) (was places) (was buffers) (was body)) first n row) (was answer) }
     ensures answer_value { left answer ≡ numbers (read_run (was formats) (was schema) (tables_of (was lengths) (was places) (was buffers) (was body)) first n row) (was answer) }
 {
     runs::run_at(
@@ -247,7 +247,7 @@ pub extern "C" fn lafkuno_read_run(
     row: u64,
     answer: &mut [u64],
 ) -> u8
-    ensures value { result ≡ ground (run_at (was tree) (column (was lengths) (was places) [] (was body) first) row) (was answer) }
+    ensures value { result ≡ refusal (run_at (was tree) (column (was lengths) (was places) [] (was body) first) row) (was answer) }
     ensures answer_value { left answer ≡ numbers (run_at (was tree) (column (was lengths) (was places) [] (was body) first) row) (was answer) }
 {
     runs::run_of_opened(tree, lengths, places, body, first, row, answer)

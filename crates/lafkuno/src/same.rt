@@ -42,6 +42,6 @@ pub extern "C" fn lafkuno_same_row(
             answer[0] = means::flag(same);
             0
         }
-        SameAnswer::Refused(ground) => ground,
+        SameAnswer::Refused(refusal) => refusal,
     }
 }

@@ -10,9 +10,9 @@ use trip::Ended;
 
 fn answer_word(e: Ended) -> u32
     requires { e.place ≤ longest }
-    ensures { result ≡ e.ground + 256 * e.place }
+    ensures { result ≡ e.refusal + 256 * e.place }
 {
-    (e.ground as u32) + 256 * e.place
+    (e.refusal as u32) + 256 * e.place
 }
 
 // Carries out up to 256 orders, four words each, or none of them.

@@ -45,20 +45,20 @@ set_six (x0 ∷ x1 ∷ x2 ∷ x3 ∷ x4 ∷ []) a b c d e f h = absurd (omega ar
 set_six (x0 ∷ x1 ∷ x2 ∷ x3 ∷ x4 ∷ x5 ∷ []) a b c d e f h = refl
 set_six (x0 ∷ x1 ∷ x2 ∷ x3 ∷ x4 ∷ x5 ∷ x6 ∷ s) a b c d e f h = absurd (omega arith)
 
-pub five_put : (w : Why) (s : List ℕ) → length s ≡ 5 → set (set (set (set (set s 0 w.ground) 1 w.node) 2 w.row) 3 w.needed) 4 w.allowed ≡ why_answer w s
+pub five_put : (w : Why) (s : List ℕ) → length s ≡ 5 → set (set (set (set (set s 0 w.refusal) 1 w.node) 2 w.row) 3 w.needed) 4 w.allowed ≡ why_answer w s
 unfolding why_answer
-five_put w s h = rw (eq-eqb (length s) 5 h) (set_five s w.ground w.node w.row w.needed w.allowed h)
+five_put w s h = rw (eq-eqb (length s) 5 h) (set_five s w.refusal w.node w.row w.needed w.allowed h)
 
-pub six_put : (w : WhyListed) (s : List ℕ) → length s ≡ 6 → set (set (set (set (set (set s 0 w.why.ground) 1 w.why.node) 2 w.why.row) 3 w.why.needed) 4 w.why.allowed) 5 w.place ≡ listed_answer w s
+pub six_put : (w : WhyListed) (s : List ℕ) → length s ≡ 6 → set (set (set (set (set (set s 0 w.why.refusal) 1 w.why.node) 2 w.why.row) 3 w.why.needed) 4 w.why.allowed) 5 w.place ≡ listed_answer w s
 unfolding listed_answer
-six_put w s h = rw (eq-eqb (length s) 6 h) (set_six s w.why.ground w.why.node w.why.row w.why.needed w.why.allowed w.place h)
+six_put w s h = rw (eq-eqb (length s) 6 h) (set_six s w.why.refusal w.why.node w.why.row w.why.needed w.why.allowed w.place h)
 
 -- as many numbers as before
 pub why_long : (w : Why) (s : List ℕ) → length (why_answer w s) ≡ length s
 unfolding why_answer
 why_long w s = go (eqb (length s) 5) refl
   where
-    go : (b : Bool) → eqb (length s) 5 ≡ b → length (cond b (w.ground ∷ w.node ∷ w.row ∷ w.needed ∷ w.allowed ∷ []) s) ≡ length s
+    go : (b : Bool) → eqb (length s) 5 ≡ b → length (cond b (w.refusal ∷ w.node ∷ w.row ∷ w.needed ∷ w.allowed ∷ []) s) ≡ length s
     go true e = omega (arith, eqb-true (length s) 5 e)
     go false e = refl
 
@@ -66,6 +66,6 @@ pub listed_long : (w : WhyListed) (s : List ℕ) → length (listed_answer w s) 
 unfolding listed_answer
 listed_long w s = go (eqb (length s) 6) refl
   where
-    go : (b : Bool) → eqb (length s) 6 ≡ b → length (cond b (w.why.ground ∷ w.why.node ∷ w.why.row ∷ w.why.needed ∷ w.why.allowed ∷ w.place ∷ []) s) ≡ length s
+    go : (b : Bool) → eqb (length s) 6 ≡ b → length (cond b (w.why.refusal ∷ w.why.node ∷ w.why.row ∷ w.why.needed ∷ w.why.allowed ∷ w.place ∷ []) s) ≡ length s
     go true e = omega (arith, eqb-true (length s) 6 e)
     go false e = refl

@@ -5,8 +5,8 @@ use Rattle.explain.specs.declared.stops.WhyListed.{WhyListed}
 
 -- what stood there before where there is not room for five numbers
 unfoldable pub why_answer : Why → List ℕ → List ℕ
-why_answer w s = cond (eqb (length s) 5) (w.ground ∷ w.node ∷ w.row ∷ w.needed ∷ w.allowed ∷ []) s
+why_answer w s = cond (eqb (length s) 5) (w.refusal ∷ w.node ∷ w.row ∷ w.needed ∷ w.allowed ∷ []) s
 
 -- .. for six
 unfoldable pub listed_answer : WhyListed → List ℕ → List ℕ
-listed_answer w s = cond (eqb (length s) 6) (w.why.ground ∷ w.why.node ∷ w.why.row ∷ w.why.needed ∷ w.why.allowed ∷ w.place ∷ []) s
+listed_answer w s = cond (eqb (length s) 6) (w.why.refusal ∷ w.why.node ∷ w.why.row ∷ w.why.needed ∷ w.why.allowed ∷ w.place ∷ []) s

@@ -1,5 +1,6 @@
 // Calls for C: which node stopped an order, the ground and five numbers that say where and why. Nothing else is written. They are a library of
 // their own, so that the compiler lays out orders as if these calls were not there.
+#![tactic(auto)]
 ghost use Rattle.std.specs.Prelude.{◌≡◌, List, ℕ};
 ghost use Rattle.clauses.specs.Slices.{was, left};
 ghost use Rattle.transform.specs.Answer.{lent};
@@ -16,7 +17,7 @@ fn put_why(answer: &mut [u64], w: Why)
     if answer.len() != 5 {
         return;
     }
-    answer[0] = w.ground as u64;
+    answer[0] = w.refusal as u64;
     answer[1] = w.node as u64;
     answer[2] = w.row;
     answer[3] = w.needed;
@@ -30,7 +31,7 @@ fn put_listed(answer: &mut [u64], w: WhyListed)
     if answer.len() != 6 {
         return;
     }
-    answer[0] = w.why.ground as u64;
+    answer[0] = w.why.refusal as u64;
     answer[1] = w.why.node as u64;
     answer[2] = w.why.row;
     answer[3] = w.why.needed;
@@ -54,7 +55,7 @@ pub extern "C" fn lafkuno_why_copy(
     end: u64,
     answer: &mut [u64],
 ) -> u8
-    ensures value { result ≡ (why_copy_order (lent (was plan) (was parts) (was sources) (was lengths) (was places) (was body)) room (was counters) source start end).ground }
+    ensures value { result ≡ (why_copy_order (lent (was plan) (was parts) (was sources) (was lengths) (was places) (was body)) room (was counters) source start end).refusal }
     ensures answer_value { left answer ≡ why_answer (why_copy_order (lent (was plan) (was parts) (was sources) (was lengths) (was places) (was body)) room (was counters) source start end) (was answer) }
 {
     let w = explain::why_copy(
@@ -70,9 +71,9 @@ pub extern "C" fn lafkuno_why_copy(
         start,
         end,
     );
-    let ground = w.ground;
+    let refusal = w.refusal;
     put_why(answer, w);
-    ground
+    refusal
 }
 
 // What stops n nulls, in a room of `room` bytes.
@@ -85,13 +86,13 @@ pub extern "C" fn lafkuno_why_nulls(
     n: u64,
     answer: &mut [u64],
 ) -> u8
-    ensures value { (sources lengths places body : List ℕ) → result ≡ (why_null_order (lent (was plan) (was parts) sources lengths places body) room (was counters) n).ground }
+    ensures value { (sources lengths places body : List ℕ) → result ≡ (why_null_order (lent (was plan) (was parts) sources lengths places body) room (was counters) n).refusal }
     ensures answer_value { (sources lengths places body : List ℕ) → left answer ≡ why_answer (why_null_order (lent (was plan) (was parts) sources lengths places body) room (was counters) n) (was answer) }
 {
     let w = explain::why_nulls(plan, parts, counters, room as usize, n);
-    let ground = w.ground;
+    let refusal = w.refusal;
     put_why(answer, w);
-    ground
+    refusal
 }
 
 // What stops a list of orders, in a room of `room` bytes.
@@ -108,7 +109,7 @@ pub extern "C" fn lafkuno_why_orders(
     orders: &[u64],
     answer: &mut [u64],
 ) -> u8
-    ensures value { result ≡ (why_trip (lent (was plan) (was parts) (was sources) (was lengths) (was places) (was body)) room (was counters) (calls_of (was orders))).why.ground }
+    ensures value { result ≡ (why_trip (lent (was plan) (was parts) (was sources) (was lengths) (was places) (was body)) room (was counters) (calls_of (was orders))).why.refusal }
     ensures answer_value { left answer ≡ listed_answer (why_trip (lent (was plan) (was parts) (was sources) (was lengths) (was places) (was body)) room (was counters) (calls_of (was orders))) (was answer) }
 {
     let w = explain::why_orders(
@@ -122,7 +123,7 @@ pub extern "C" fn lafkuno_why_orders(
         room as usize,
         orders,
     );
-    let ground = w.why.ground;
+    let refusal = w.why.refusal;
     put_listed(answer, w);
-    ground
+    refusal
 }

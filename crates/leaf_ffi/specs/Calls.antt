@@ -1,8 +1,8 @@
 -- When a call of a leaf is done: where its ranges lie inside the slices that it is lent. Assumes nothing.
 use Rattle.std.specs.Prelude.{ℕ, zero, suc, ◌+◌, ◌-◌, ◌*◌, ◌%◌, ◌^◌, Bool, ◌&&◌, List, nat_le, slice_index}
-use Rattle.run_ends_lem.specs.Lookup.{found_run}
-use Rattle.run_ends_lem.specs.declared.Found.{Found}
-use Rattle.run_ends_lem.specs.declared.Found.TheVariants.{Run, Past}
+use Rattle.run_ends.specs.Lookup.{found_run}
+use Rattle.run_ends.specs.declared.Found.{Found}
+use Rattle.run_ends.specs.declared.Found.TheVariants.{Run, Past}
 
 -- n entries of w bytes from the byte `at` on lie inside len bytes
 abbrev pub inside : ℕ → ℕ → ℕ → ℕ → Bool

@@ -1,5 +1,6 @@
 // The leaves as calls for a driver in another language, by which their speed is measured.
 // Each call tests its ranges; where one does not lie inside its slice, it writes nothing and answers REFUSED.
+#![tactic(auto)]
 ghost use Rattle.std.specs.Prelude.{◌≡◌, ◌+◌, ◌*◌, ◌<◌, ◌≤◌, length, take, drop, replicate, if◌then◌else◌};
 ghost use Rattle.clauses.specs.Slices.{was, left};
 ghost use Rattle.number.specs.Number.{splice};

@@ -1,6 +1,7 @@
 // The walk at nodes that have no children: validity, numbers, keys and views, and the nulls of them.
 // The answer is 0 or the ground of refusal; a walk that only tries changes the counters alone.
 // What a function does not read of the order stands in its contract for all values.
+#![tactic(auto)]
 pub mod variable_size;
 
 ghost use Rattle.std.specs.Prelude.{◌≡◌, Bool, not, ◌&&◌, List, ℕ, ◌+◌, ◌*◌, ◌<◌, ◌≤◌, ◌^◌, eqb};

@@ -33,16 +33,16 @@ unplaced x = record { plan = x.plan; parts = []; sources = x.sources; lengths = 
 
 -- the ground of an order by the answer to its question: "13 last"
 abbrev pub ground_by : Lent → Measured → ℕ
-ground_by x m = cond (eqb m.ground 0) (cond (parts_hold x.plan m.counters x.parts) 0 13) m.ground
+ground_by x m = cond (eqb m.refusal 0) (cond (parts_hold x.plan m.counters x.parts) 0 13) m.refusal
 
 -- a walk, its parts asked or not
 by_walk : (plan parts old : List ℕ) (o : Out) → cond (eqb o.ans 0) (cond (parts_hold plan o.counters parts) 0 13) o.ans
-    ≡ cond (eqb (measured old o).ground 0) (cond (parts_hold plan (measured old o).counters parts) 0 13) (measured old o).ground
+    ≡ cond (eqb (measured old o).refusal 0) (cond (parts_hold plan (measured old o).counters parts) 0 13) (measured old o).refusal
 unfolding measured
 by_walk plan parts old o = go (eqb o.ans 0) refl
   where
     go : (t : Bool) → eqb o.ans 0 ≡ t → cond (eqb o.ans 0) (cond (parts_hold plan o.counters parts) 0 13) o.ans
-        ≡ cond (eqb (measured old o).ground 0) (cond (parts_hold plan (measured old o).counters parts) 0 13) (measured old o).ground
+        ≡ cond (eqb (measured old o).refusal 0) (cond (parts_hold plan (measured old o).counters parts) 0 13) (measured old o).refusal
     go true e = rw e
     go false e = rw (e, e)
 
@@ -52,18 +52,18 @@ module _ (x : Lent) (counters room : List ℕ) (within : parts_within x.plan x.p
   unfolding walkable
   walks = rw (le-leb (length room) ceiling small)
 
-  settled_ground : (o : Out) → (settled x counters room o).ground ≡ ground_by x (measured counters o)
+  settled_ground : (o : Out) → (settled x counters room o).refusal ≡ ground_by x (measured counters o)
   unfolding settled
   settled_ground o = go (eqb o.ans 0) (parts_hold x.plan o.counters x.parts) refl refl ∙ by_walk x.plan x.parts counters o
     where
       go : (t b : Bool) → eqb o.ans 0 ≡ t → parts_hold x.plan o.counters x.parts ≡ b
-          → (settled x counters room o).ground ≡ cond (eqb o.ans 0) (cond (parts_hold x.plan o.counters x.parts) 0 13) o.ans
+          → (settled x counters room o).refusal ≡ cond (eqb o.ans 0) (cond (parts_hold x.plan o.counters x.parts) 0 13) o.ans
       go true true e f = rw (e, within, f)
       go true false e f = rw (e, within, f)
       go false b e f = rw e
 
   -- THE QUESTION OF A COPY HAS THE COPY'S GROUND, 13 apart
-  pub copy_asked : (s a e : ℕ) → (copy_order x counters room s a e).ground ≡ ground_by x (copy_measure counters (unplaced x) s a e)
+  pub copy_asked : (s a e : ℕ) → (copy_order x counters room s a e).refusal ≡ ground_by x (copy_measure counters (unplaced x) s a e)
   unfolding copy_order copy_measure
   copy_asked s a e = go (eqb (length counters) 96) (plan_sound x.plan) (ltb s (source_count x.plan)) (leb a e && leb e (source_length x s)) refl refl refl refl
     where
@@ -71,7 +71,7 @@ module _ (x : Lent) (counters room : List ℕ) (within : parts_within x.plan x.p
       walk = walk_same x.plan x.parts [] x.lengths x.places x.body (get_or x.sources (2 * s) 0) s 8 0 a (e - a) counters
 
       go : (p o q r : Bool) → eqb (length counters) 96 ≡ p → plan_sound x.plan ≡ o → ltb s (source_count x.plan) ≡ q → (leb a e && leb e (source_length x s)) ≡ r
-          → (copy_order x counters room s a e).ground ≡ ground_by x (copy_measure counters (unplaced x) s a e)
+          → (copy_order x counters room s a e).refusal ≡ ground_by x (copy_measure counters (unplaced x) s a e)
       go true true true true f w g h = rw (f, walks, w, g, h) (settled_ground (copy_walk (join_of x s) 8 0 a (e - a) counters) ∙ ap (λ o. ground_by x (measured counters o)) walk)
       go true true true false f w g h = rw (f, walks, w, g, h)
       go true true false r f w g h = rw (f, walks, w, g)
@@ -79,7 +79,7 @@ module _ (x : Lent) (counters room : List ℕ) (within : parts_within x.plan x.p
       go false o q r f w g h = rw f
 
   -- THE QUESTION OF NULLS HAS THEIR GROUND
-  pub nulls_asked : (n : ℕ) → (null_order x counters room n).ground ≡ ground_by x (null_measure counters (unplaced x) n)
+  pub nulls_asked : (n : ℕ) → (null_order x counters room n).refusal ≡ ground_by x (null_measure counters (unplaced x) n)
   unfolding null_order null_measure
   nulls_asked n = go (eqb (length counters) 96) (plan_sound x.plan) (eqb (keeps_of x.plan 0) 0) refl refl refl
     where
@@ -87,7 +87,7 @@ module _ (x : Lent) (counters room : List ℕ) (within : parts_within x.plan x.p
       walk = null_plan x.plan x.parts [] x.lengths x.lengths x.places x.places x.body x.body (get_or x.sources 0 0) (get_or x.sources 0 0) 0 0 8 0 (min n far) counters
 
       go : (p o q : Bool) → eqb (length counters) 96 ≡ p → plan_sound x.plan ≡ o → eqb (keeps_of x.plan 0) 0 ≡ q
-          → (null_order x counters room n).ground ≡ ground_by x (null_measure counters (unplaced x) n)
+          → (null_order x counters room n).refusal ≡ ground_by x (null_measure counters (unplaced x) n)
       go true true true f w g = rw (f, walks, w, g)
       go true true false f w g = rw (f, walks, w, g) (settled_ground (null_walk (join_of x 0) 8 0 (min n far) counters) ∙ ap (λ o. ground_by x (measured counters o)) walk)
       go true false q f w g = rw (f, walks, w)
@@ -121,7 +121,7 @@ module _ (formats schema sources : List ℕ) (x : Tables) (keep gaps : Bool) (pa
   -- THE QUESTION OF AN OPENING HAS ITS GROUND, where 9 to 12 and 14 do not stand
   pub open_asked : leb (length room) ceiling ≡ true → sources_ground formats schema x sources ≡ 0 → room_placed formats schema sources x keep gaps parts plan counters room ≡ true
       → source_count lends.plan ≤ 16 → length counters ≡ 96
-      → (opening formats schema sources x keep gaps parts plan counters room).ground ≡ ground_by lends (open_measure (unplaced lends) counters)
+      → (opening formats schema sources x keep gaps parts plan counters room).refusal ≡ ground_by lends (open_measure (unplaced lends) counters)
   unfolding opening start.settled open_measure
   open_asked l s p few h =
       let o = open_walk_of lends (replicate 96 0) in
@@ -129,7 +129,7 @@ module _ (formats schema sources : List ℕ) (x : Tables) (keep gaps : Bool) (pa
       (go o (eqb o.ans 0) (parts_hold lends.plan o.counters parts) refl refl ∙ by_walk lends.plan parts counters o ∙ ap (λ z. ground_by lends (measured counters z)) (open_same lends (replicate 96 0)))
     where
       go : (o : Out) (t b : Bool) → eqb o.ans 0 ≡ t → parts_hold lends.plan o.counters parts ≡ b
-          → (start.settled formats schema sources x keep gaps parts plan counters room o).ground ≡ cond (eqb o.ans 0) (cond (parts_hold lends.plan o.counters parts) 0 13) o.ans
+          → (start.settled formats schema sources x keep gaps parts plan counters room o).refusal ≡ cond (eqb o.ans 0) (cond (parts_hold lends.plan o.counters parts) 0 13) o.ans
       go o true true e f = rw (e, f)
       go o true false e f = rw (e, f)
       go o false b e f = rw e

@@ -4,5 +4,5 @@ use Rattle.refinement.specs.orders.Measure.{Measured}
 
 -- the ground that is answered, and the counters as they are left
 pub record Measures (a : Measured) (r : ℕ) (tally : List ℕ) : Type 0 where
-  pub ground : r ≡ a.ground
+  pub refusal : r ≡ a.refusal
   pub counters : tally ≡ a.counters

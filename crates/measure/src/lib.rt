@@ -1,5 +1,6 @@
 // The questions about room: what the opening and the orders come to in a room that is large enough, as counters, and the bytes that each part then holds.
 // No part is asked and nothing is written but the counters.
+#![tactic(auto)]
 ghost use Rattle.std.specs.Prelude.{◌≡◌, List, [], ℕ, ◌+◌, ◌*◌, ◌/◌, ◌<◌, min};
 ghost use Rattle.clauses.specs.Slices.{was, left};
 ghost use Rattle.walk.specs.State.{top};

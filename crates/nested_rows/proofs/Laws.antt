@@ -11,9 +11,9 @@ use borrow.Author.Tests.{lt-ltb, le-ltb, le-leb, lt-leb, ltb-true, ltb-false, eq
 use Rattle.number.specs.Number.{encode, entry}
 use Rattle.columnar.specs.Types.{half}
 use Rattle.utils.specs.Offsets.{counted_up}
-use Rattle.run_ends_lem.specs.Lookup.{found_run, runs_of}
-use Rattle.run_ends_lem.specs.Clip.{clipped}
-use Rattle.run_ends_lem.specs.declared.Runs.{Runs}
+use Rattle.run_ends.specs.Lookup.{found_run, runs_of}
+use Rattle.run_ends.specs.Clip.{clipped}
+use Rattle.run_ends.specs.declared.Runs.{Runs}
 use Rattle.array_data.proofs.lent_tables.Laws.{no, yes, and_left, and_right}
 use Rattle.walk.specs.State.{Join, bytes_of, end_of, id_of, rows, bytes, add_rows, set_bytes, end_gap, begin_gap, place, length_of, offset_of, rows_in, scaled, grown, top}
 use Rattle.walk.specs.Log.{Entry, Out, Did, put, amend, enter, apply, apply_if, wrote, need, next}

@@ -3,7 +3,7 @@ use Rattle.std.specs.Prelude.{◌&&◌, List, [], ◌∷◌, ℕ, suc, ◌+◌, 
 use Rattle.number.specs.Number.{encode}
 use Rattle.columnar.specs.Types.{half}
 use Rattle.utils.specs.Offsets.{counted_up}
-use Rattle.run_ends_lem.specs.Clip.{clipped}
+use Rattle.run_ends.specs.Clip.{clipped}
 use Rattle.walk.specs.State.{Join, bytes_of, id_of, rows, add_rows, end_gap, begin_gap, place, length_of, offset_of, rows_in}
 use Rattle.walk.specs.Log.{Out, put, amend, done, wrote, need, next}
 use Rattle.walk.specs.Copy.{is_width}

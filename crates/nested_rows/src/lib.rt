@@ -1,5 +1,6 @@
 // What a walk does at a node with children beside their own walk: the numbers of a row, the ends of runs, ids and positions of nulls.
 // The answer is 0 or the ground of refusal; a walk that only tries changes the counters alone.
+#![tactic(auto)]
 mod gaps;
 pub mod lookups;
 pub mod node_data;

@@ -2,7 +2,7 @@
 ghost use Rattle.std.specs.Prelude.{◌≡◌, List, ℕ, ◌+◌, ◌*◌, ◌^◌, ◌<◌, ◌≤◌, length};
 ghost use Rattle.clauses.specs.Slices.{was};
 ghost use Rattle.number.specs.Number.{entry};
-ghost use Rattle.run_ends_lem.specs.Lookup.{found_run, runs_of};
+ghost use Rattle.run_ends.specs.Lookup.{found_run, runs_of};
 ghost use Rattle.walk.specs.State.{slot_of, bytes_of};
 ghost use Rattle.walk.specs.Copy.{child_with};
 ghost use Rattle.walk.specs.Nulls.{nullable_child};

@@ -1,4 +1,5 @@
 // The plan of a join as the opening plans it, before any dictionary is joined: one function for each kind of word.
+#![tactic(auto)]
 pub mod dictionaries;
 mod fine;
 pub mod grounds;

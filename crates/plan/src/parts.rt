@@ -9,7 +9,7 @@ use array_data::lent_tables;
 use walk::plan_words;
 
 // The node and the buffer of a part; buffer 0 is the validity.
-#[derive(Drop)]
+#[derive(Clone, Copy)]
 pub enum Spot {
     Of { node: usize, buffer: usize },
     Nothing,

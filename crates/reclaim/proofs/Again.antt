@@ -24,7 +24,7 @@ use Rattle.reclaim.proofs.Exact.{entries_in_use, reclaim_twice}
 
 module _ (formats schema : List ℕ) (x : Tables) (first n : ℕ) (low : first < 2 ^ 32) (good : column_ground formats schema x first n ≡ 0) (k : Number) (p : Plain)
     (e : type_of formats schema first n ≡ t_dictionary k p) (bytes : AllBelow 256 x.body) (parts plan counters room : List ℕ) (room_bytes : AllBelow 256 room)
-    (ok : (reclaiming formats schema x first n parts plan counters room).ground ≡ 0) (base : ℕ) (body : List ℕ)
+    (ok : (reclaiming formats schema x first n parts plan counters room).refusal ≡ 0) (base : ℕ) (body : List ℕ)
     (bodied : Bodied body (lent_for x (reclaim_plan formats schema x first n) parts first n) (reclaiming formats schema x first n parts plan counters room).room base) where
   abbrev old : Column (t_dictionary k p)
   old = column_of (tree_of formats schema first n) (tables_from x first) (t_dictionary k p) 0
@@ -55,11 +55,11 @@ module _ (formats schema : List ℕ) (x : Tables) (first n : ℕ) (low : first <
 
       -- A SECOND TIME it is refused with 14 and 13 of the room alone
       pub again_ground : small_body room' ≡ true
-          → (reclaiming formats schema z first n parts' plan' counters' room').ground
+          → (reclaiming formats schema z first n parts' plan' counters' room').refusal
           ≡ room_ground (reclaim_plan formats schema z first n) (reclaim_out formats schema z first n).counters parts' (length plan') (length counters') (length room')
       again_ground = only_room formats schema z first n low lent_again k p e z_bytes parts' plan' counters' room'
 
-      module _ (room-bytes' : AllBelow 256 room') (ok' : (reclaiming formats schema z first n parts' plan' counters' room').ground ≡ 0) (base' : ℕ) (body' : List ℕ)
+      module _ (room-bytes' : AllBelow 256 room') (ok' : (reclaiming formats schema z first n parts' plan' counters' room').refusal ≡ 0) (base' : ℕ) (body' : List ℕ)
           (bodied' : Bodied body' (lent_for z (reclaim_plan formats schema z first n) parts' first n) (reclaiming formats schema z first n parts' plan' counters' room').room base') where
         same_column : reclaimed k p (column_of (tree_of formats schema first n) (tables_from z first) (t_dictionary k p) 0) ≡ reclaimed k p old
         same_column =

@@ -103,7 +103,7 @@ module _ (formats schema : List ℕ) (x : Tables) (first n : ℕ) (low : first <
     abbrev of_room : ℕ
     of_room = room_ground (reclaim_plan formats schema x first n) (reclaim_out formats schema x first n).counters parts (length plan) (length counters) (length room)
 
-    pub grounds : small_body room ≡ true → (reclaiming formats schema x first n parts plan counters room).ground ≡ or_else (column_ground formats schema x first n) (or_else (reclaim_own schema first) of_room)
+    pub grounds : small_body room ≡ true → (reclaiming formats schema x first n parts plan counters room).refusal ≡ or_else (column_ground formats schema x first n) (or_else (reclaim_own schema first) of_room)
     grounds s =
         anew_order formats schema x first n (reclaim_own schema first) (reclaim_plan formats schema x first n) (reclaim_out formats schema x first n) parts plan counters room s
         ∙ or_never (column_ground formats schema x first n) (reclaim_own schema first) (reclaim_out formats schema x first n).ans of_room (λ good own. by_type good (own_dictionary good own))
@@ -164,7 +164,7 @@ module _ (formats schema : List ℕ) (x : Tables) (first n : ℕ) (low : first <
     null_keys = let g = given formats schema x first n low good k p e [] in null_key k p old g.formed g.source i l
 
   -- "DOING IT TWICE GIVES WHAT ONCE GIVES": the finished tables lent to the call again
-  pub reclaim_twice : (parts plan counters room : List ℕ) (room_bytes : AllBelow 256 room) (ok : (reclaiming formats schema x first n parts plan counters room).ground ≡ 0) (base : ℕ) (body : List ℕ)
+  pub reclaim_twice : (parts plan counters room : List ℕ) (room_bytes : AllBelow 256 room) (ok : (reclaiming formats schema x first n parts plan counters room).refusal ≡ 0) (base : ℕ) (body : List ℕ)
       (bodied : Bodied body (lent_for x (reclaim_plan formats schema x first n) parts first n) (reclaiming formats schema x first n parts plan counters room).room base)
       → reclaimed k p
       (column_of (tree_of formats schema first n)

@@ -75,16 +75,16 @@ module _ (formats schema : List ℕ) (x : Tables) (first n : ℕ) (low : first <
     answer = reclaiming formats schema x first n parts plan counters room
 
     -- ITS ONLY GROUNDS ARE 14 AND 13 of the room
-    pub only_room : small_body room ≡ true → answer.ground ≡ room_ground made walk.counters parts (length plan) (length counters) (length room)
+    pub only_room : small_body room ≡ true → answer.refusal ≡ room_ground made walk.counters parts (length plan) (length counters) (length room)
     only_room s =
         anew_ground formats schema x first n (reclaim_own schema first) made walk parts plan counters room s
         ∙ ap (λ z. or_else z (room_ground made walk.counters parts (length plan) (length counters) (length room))) (ahead_none formats schema x first n made walk good own_none never_refused)
 
     -- A REFUSED CALL CHANGES NOTHING
-    pub refused_keeps : (answer.ground ≡ 0 → ⊥) → (answer.plan ≡ plan) × (answer.counters ≡ counters) × (answer.room ≡ room)
+    pub refused_keeps : (answer.refusal ≡ 0 → ⊥) → (answer.plan ≡ plan) × (answer.counters ≡ counters) × (answer.room ≡ room)
     refused_keeps = anew_keeps formats schema x first n (reclaim_own schema first) made walk parts plan counters room
 
-    module _ (room_bytes : AllBelow 256 room) (ok : answer.ground ≡ 0) where
+    module _ (room_bytes : AllBelow 256 room) (ok : answer.refusal ≡ 0) where
       -- AN ACCEPTED CALL CHANGES ONLY BYTES OF THE PARTS, up to what each needs
       pub only_parts : OnlyUsed made parts room answer.counters answer.room
       unfolding reclaim_plan

@@ -1,4 +1,5 @@
 // Reclaiming the unused entries of a dictionary column: the question before any room is lent, and the call. The result is finished as a join is.
+#![tactic(auto)]
 mod entry_copies;
 pub mod entry_writes;
 mod plain;

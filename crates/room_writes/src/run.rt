@@ -1,7 +1,7 @@
 // Run ends into the room.
 ghost use Rattle.std.specs.Prelude.{◌≡◌, [], ◌∷◌, ◌+◌, ◌*◌, ◌-◌, ◌/◌, ◌<◌, ◌≤◌, ◌^◌, length};
 ghost use Rattle.number.specs.Number.{splice};
-ghost use Rattle.run_ends_lem.specs.Clip.{clipped};
+ghost use Rattle.run_ends.specs.Clip.{clipped};
 ghost use Rattle.walk.specs.Log.{put, apply_if};
 
 use run_ends::copies;

@@ -23,7 +23,7 @@ use Rattle.row_reader.specs.declared.Step.TheVariants as step
 
 -- nothing to go on to: a ground of refusal
 abbrev pub refused : ℕ → Step
-refused ground = step.Done (row.Refused ground)
+refused refusal = step.Done (row.Refused refusal)
 
 -- ---- unions
 
@@ -74,7 +74,7 @@ run_in w s off len offset rows r =
 -- "a run-end row [is] the value of the first run whose end is above offset + row"
 abbrev pub ran : ℕ → RowRun → Step
 ran i (run.Run k left) = step.Go (suc (suc i)) k.0
-ran i (run.Refused ground) = refused 12
+ran i (run.Refused refusal) = refused 12
 
 module _ (x : Tables) where
   -- the run of row r of node i: its run ends are the next node, with their own offset

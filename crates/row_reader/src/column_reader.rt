@@ -28,11 +28,11 @@ pub fn open_column(
     ensures value { result ≡ column_ground (was formats) (was schema) (tables_of (was lengths) (was places) (was buffers) (was body)) first n }
     ensures tree_value { left tree ≡ opened_tree (was formats) (was schema) (tables_of (was lengths) (was places) (was buffers) (was body)) first n (was tree) }
 {
-    let ground = columns::column_ground(formats, schema, lengths, places, buffers, body, first, n);
-    if ground == 0 {
+    let refusal = columns::column_ground(formats, schema, lengths, places, buffers, body, first, n);
+    if refusal == 0 {
         node_words::plant(formats, schema, first as usize, n as usize, tree);
     }
-    ground
+    refusal
 }
 
 // A copy; that it has 256 elements is known of an array that a call returns.
@@ -59,12 +59,12 @@ pub fn read_row(
     ensures ids_value { left ids ≡ splice 0 (read_row (was formats) (was schema) (tables_of (was lengths) (was places) (was buffers) (was body)) first n row).ids (was ids) }
 {
     let mut tree = [0u64; 256];
-    let ground = open_column(
+    let refusal = open_column(
         formats, schema, lengths, places, buffers, body, first, n, &mut tree,
     );
-    if ground != 0 {
+    if refusal != 0 {
         return RowAnswer {
-            read: RowRead::Refused(ground),
+            read: RowRead::Refused(refusal),
             ids: 0,
         };
     }

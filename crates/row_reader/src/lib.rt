@@ -1,4 +1,5 @@
 // One row of a lent column, read from the top of the tree downward, at most eight levels.
+#![tactic(auto)]
 pub mod column_reader;
 pub mod row_pair;
 pub mod runs;
@@ -17,7 +18,7 @@ use slot_reader::run::{ColumnRow, RowRun};
 use slot_reader::{RowRead, run};
 
 // What a node says of a row: all there is, or the row of a child; of a union's child with its id.
-#[derive(Drop)]
+#[derive(Clone, Copy)]
 pub enum Step {
     Done(RowRead),
     Go { node: usize, row: u64 },
@@ -25,14 +26,14 @@ pub enum Step {
 }
 
 // A union's child.
-#[derive(Drop)]
+#[derive(Clone, Copy)]
 pub enum Child {
     Node(usize),
     Missing,
 }
 
 // A row with the ids of the unions on the way to it: the first `count` of `ids`.
-#[derive(Drop)]
+#[derive(Clone, Copy)]
 struct Reading {
     read: RowRead,
     ids: [u8; 8],
@@ -40,7 +41,7 @@ struct Reading {
 }
 
 // A row, and how many ids of unions were written.
-#[derive(Drop)]
+#[derive(Clone, Copy)]
 pub struct RowAnswer {
     pub read: RowRead,
     pub ids: u8,

@@ -16,7 +16,7 @@ pub const NO_SUCH_ROW: u8 = 2;
 pub const NO_NUMBERS: u8 = 10;
 
 // Whether both rows read the same; or the ground of refusal.
-#[derive(Drop)]
+#[derive(Clone, Copy)]
 pub enum SameAnswer {
     Told(bool),
     Refused(u8),
@@ -62,11 +62,11 @@ fn rows_ground(
 ) -> u8
     ensures { result ≡ rows_ground (was formats) (was schema) (tables_of (was lengths) (was places) (was buffers) (was body)) first_a n_a first_b n_b row_a row_b }
 {
-    let ground = columns::column_pair::pair_ground(
+    let refusal = columns::column_pair::pair_ground(
         formats, schema, lengths, places, buffers, body, first_a, n_a, first_b, n_b,
     );
-    if ground != 0 {
-        return ground;
+    if refusal != 0 {
+        return refusal;
     }
     if entries::length_at(lengths, first_a, 0) <= row_a {
         return NO_SUCH_ROW;
@@ -142,11 +142,11 @@ pub fn same_row(
 ) -> SameAnswer
     ensures { result ≡ same_row (was formats) (was schema) (tables_of (was lengths) (was places) (was buffers) (was body)) first_a n_a first_b n_b row_a row_b }
 {
-    let ground = rows_ground(
+    let refusal = rows_ground(
         formats, schema, lengths, places, buffers, body, first_a, n_a, first_b, n_b, row_a, row_b,
     );
-    if ground != 0 {
-        return SameAnswer::Refused(ground);
+    if refusal != 0 {
+        return SameAnswer::Refused(refusal);
     }
     let a = leaf_at(
         formats, schema, lengths, places, buffers, body, first_a, n_a, row_a,

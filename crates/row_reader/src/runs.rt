@@ -5,7 +5,7 @@ ghost use Rattle.clauses.specs.Slices.{was, left};
 ghost use Rattle.source_rules.specs.kinds.Rows.{tables_of};
 ghost use Rattle.array_data.specs.entries.Entries.{column};
 ghost use Rattle.row_reader.specs.Walk.{run_at};
-ghost use Rattle.row_reader.specs.runs.Answers.{read_run, ground, numbers};
+ghost use Rattle.row_reader.specs.runs.Answers.{read_run, refusal, numbers};
 
 use slot_reader::run::{ColumnRow, RowRun};
 
@@ -45,7 +45,7 @@ pub fn read_run(
 // The ground, then 14 where the answer has not 2 numbers, or 0. They are the run and the rows left; a ground leaves them as they
 // were.
 fn put_run(found: RowRun, answer: &mut [u64]) -> u8
-    ensures value { result ≡ ground found (was answer) }
+    ensures value { result ≡ refusal found (was answer) }
     ensures answer_value { left answer ≡ numbers found (was answer) }
 {
     match found {
@@ -74,7 +74,7 @@ pub fn run_at(
     row: u64,
     answer: &mut [u64],
 ) -> u8
-    ensures value { result ≡ ground (read_run (was formats) (was schema) (tables_of (was lengths) (was places) (was buffers) (was body)) first n row) (was answer) }
+    ensures value { result ≡ refusal (read_run (was formats) (was schema) (tables_of (was lengths) (was places) (was buffers) (was body)) first n row) (was answer) }
     ensures answer_value { left answer ≡ numbers (read_run (was formats) (was schema) (tables_of (was lengths) (was places) (was buffers) (was body)) first n row) (was answer) }
 {
     let found = read_run(
@@ -101,7 +101,7 @@ pub fn run_of_opened(
     row: u64,
     answer: &mut [u64],
 ) -> u8
-    ensures value { result ≡ ground (run_at (was tree) (column (was lengths) (was places) [] (was body) first) row) (was answer) }
+    ensures value { result ≡ refusal (run_at (was tree) (column (was lengths) (was places) [] (was body) first) row) (was answer) }
     ensures answer_value { left answer ≡ numbers (run_at (was tree) (column (was lengths) (was places) [] (was body) first) row) (was answer) }
 {
     let found = crate::run_at(tree, lengths, places, body, first, ColumnRow(row));

@@ -6,7 +6,7 @@ use Rattle.columnar.specs.Array.{Array, item, ok}
 use Rattle.columnar.specs.ListView.{ListView}
 use Rattle.columnar.specs.RunEnd.{end_of, start_of}
 use Rattle.columnar.specs.Test.{every, mask_test, offsets_to, entry_test, list_view_test, ends_test}
-use Rattle.run_ends_lem.specs.Lookup.{last_end}
+use Rattle.run_ends.specs.Lookup.{last_end}
 use Rattle.columnar.proofs.Items.{number_take, entry_end}
 use Rattle.row_rules.specs.Rules.{never_falls_lem, offsets_rows, view_row, list_view_rows, rises, ends_rows}
 

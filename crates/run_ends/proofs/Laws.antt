@@ -11,14 +11,14 @@ use lib.Dec.{ltb, leb}
 use borrow.Author.Tests.{ltb-true, ltb-false, leb-true, lt-ltb, le-ltb, le-leb, lt-leb}
 use Rattle.number.specs.Number.{entry, encode, splice}
 use Rattle.number.proofs.Laws.{length_encode, splice_splice}
-use Rattle.run_ends_lem.specs.Lookup.{first_above, bisect, left_of, answered, found_at, found_run, format_run, Climbs, Rising, last_end, span_of, spanned, shortened, runs_of, runs_between}
-use Rattle.run_ends_lem.specs.Clip.{clip, clipped}
-use Rattle.run_ends_lem.specs.declared.PhysicalRun.{PhysicalRun}
-use Rattle.run_ends_lem.specs.declared.Found.{Found}
-use Rattle.run_ends_lem.specs.declared.Found.TheVariants.{Run, Past}
-use Rattle.run_ends_lem.specs.declared.Runs.{Runs}
-use Rattle.run_ends_lem.specs.declared.Runs.TheVariants.{Range, None}
-use Rattle.run_ends_lem.proofs.Search.{First, first_is, first_of_lem, quarter_first}
+use Rattle.run_ends.specs.Lookup.{first_above, bisect, left_of, answered, found_at, found_run, format_run, Climbs, Rising, last_end, span_of, spanned, shortened, runs_of, runs_between}
+use Rattle.run_ends.specs.Clip.{clip, clipped}
+use Rattle.run_ends.specs.declared.PhysicalRun.{PhysicalRun}
+use Rattle.run_ends.specs.declared.Found.{Found}
+use Rattle.run_ends.specs.declared.Found.TheVariants.{Run, Past}
+use Rattle.run_ends.specs.declared.Runs.{Runs}
+use Rattle.run_ends.specs.declared.Runs.TheVariants.{Range, None}
+use Rattle.run_ends.proofs.Search.{First, first_is, first_of_lem, quarter_first}
 
 module _ (w : ℕ) (s : List ℕ) (from n : ℕ) where
   -- where the ends rise, the search by quarters answers the format's run

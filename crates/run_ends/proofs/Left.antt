@@ -7,10 +7,10 @@ use native.Mathlib.Omega.{arith}
 use lib.Dec.{ltb}
 use borrow.Author.Tests.{lt-ltb, le-ltb, ltb-true, ltb-false}
 use Rattle.number.specs.Number.{entry}
-use Rattle.run_ends_lem.specs.Lookup.{first, first_above, bisect, left_of, found_run, Climbs, Covers, Rising}
-use Rattle.run_ends_lem.specs.declared.Found.{Found}
-use Rattle.run_ends_lem.specs.declared.Found.TheVariants.{Run, Past}
-use Rattle.run_ends_lem.proofs.Search.{First, first_is, first_of_lem, climbs_le, quarter_first, covers_lt}
+use Rattle.run_ends.specs.Lookup.{first, first_above, bisect, left_of, found_run, Climbs, Covers, Rising}
+use Rattle.run_ends.specs.declared.Found.{Found}
+use Rattle.run_ends.specs.declared.Found.TheVariants.{Run, Past}
+use Rattle.run_ends.proofs.Search.{First, first_is, first_of_lem, climbs_le, quarter_first, covers_lt}
 
 -- the `left` rows from x on are those of run k: at least x itself, none past the column, all in run k, and the next row in the next run
 pub record Left (e : ℕ → ℕ) (n last x k left : ℕ) : Type 0 where

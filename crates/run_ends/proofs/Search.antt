@@ -8,7 +8,7 @@ use native.Mathlib.Numerals.{add-one}
 use native.Mathlib.Omega.{arith}
 use lib.Dec.{ltb}
 use borrow.Author.Tests.{ltb-true, ltb-false, lt-ltb, le-ltb}
-use Rattle.run_ends_lem.specs.Lookup.{scan, first, not_above, tally, passed, quarter, Climbs, Covers}
+use Rattle.run_ends.specs.Lookup.{scan, first, not_above, tally, passed, quarter, Climbs, Covers}
 
 -- what is left of a search is the whole search
 pub record Quartering (e : ℕ → ℕ) (x n base size : ℕ) : Type 0 where

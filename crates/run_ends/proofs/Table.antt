@@ -3,10 +3,10 @@ use mathlib.Core.Path.{◌≡◌, refl}
 use Prim.Native.Nat.{ℕ, ◌+◌, ◌/◌}
 use mathlib.Core.List.{List, [], ◌∷◌, ◌++◌}
 use Rattle.number.specs.Number.{number, encode}
-use Rattle.run_ends_lem.specs.Lookup.{scan, tally, quarter, found_run, format_run, runs_of, runs_between}
-use Rattle.run_ends_lem.specs.declared.Found.{Found}
-use Rattle.run_ends_lem.specs.declared.Found.TheVariants.{Run, Past}
-use Rattle.run_ends_lem.specs.declared.Runs.TheVariants.{Range}
+use Rattle.run_ends.specs.Lookup.{scan, tally, quarter, found_run, format_run, runs_of, runs_between}
+use Rattle.run_ends.specs.declared.Found.{Found}
+use Rattle.run_ends.specs.declared.Found.TheVariants.{Run, Past}
+use Rattle.run_ends.specs.declared.Runs.TheVariants.{Range}
 
 -- the run ends 2, 5, 9
 unfoldable ends : ℕ → List ℕ

@@ -1,7 +1,7 @@
 -- Run ends of a copied range. Assumes nothing.
 use Rattle.std.specs.Prelude.{◌≡◌, ℕ, zero, suc, ◌+◌, ◌-◌, ◌<◌, min, cond, List, [], ◌++◌, ltb}
 use Rattle.number.specs.Number.{entry, encode}
-use Rattle.run_ends_lem.specs.Lookup.{Climbs}
+use Rattle.run_ends.specs.Lookup.{Climbs}
 
 -- how many rows of start .. end - 1 stand before the run end x
 abbrev pub clip : ℕ → ℕ → ℕ → ℕ

@@ -1,11 +1,11 @@
 -- Run ends, and the run of a row: n signed numbers of w bytes that stand in s from the byte `from` on. Assumes nothing.
 use Rattle.std.specs.Prelude.{ℕ, zero, suc, ◌+◌, ◌*◌, ◌-◌, ◌/◌, ◌^◌, ◌≤◌, ◌<◌, min, cond, List, ltb, leb}
 use Rattle.number.specs.Number.{entry}
-use Rattle.run_ends_lem.specs.declared.PhysicalRun.{PhysicalRun}
-use Rattle.run_ends_lem.specs.declared.Found.{Found}
-use Rattle.run_ends_lem.specs.declared.Found.TheVariants.{Run, Past}
-use Rattle.run_ends_lem.specs.declared.Runs.{Runs}
-use Rattle.run_ends_lem.specs.declared.Runs.TheVariants.{Range, None}
+use Rattle.run_ends.specs.declared.PhysicalRun.{PhysicalRun}
+use Rattle.run_ends.specs.declared.Found.{Found}
+use Rattle.run_ends.specs.declared.Found.TheVariants.{Run, Past}
+use Rattle.run_ends.specs.declared.Runs.{Runs}
+use Rattle.run_ends.specs.declared.Runs.TheVariants.{Range, None}
 
 -- ---- ends as a function: e k is the end of run k
 

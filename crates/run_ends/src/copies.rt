@@ -2,7 +2,7 @@
 // Follows arrow-data 60.1.0 src/transform/run.rs, Apache-2.0; see NOTICE.
 ghost use Rattle.std.specs.Prelude.{◌≡◌, ◌+◌, ◌*◌, ◌-◌, ◌/◌, ◌^◌, ◌≤◌, ◌<◌, length};
 ghost use Rattle.number.specs.Number.{splice};
-ghost use Rattle.run_ends_lem.specs.Clip.{clip, clipped};
+ghost use Rattle.run_ends.specs.Clip.{clip, clipped};
 
 use crate::{LogicalRow, PhysicalRun};
 

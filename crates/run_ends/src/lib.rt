@@ -1,28 +1,29 @@
 // Run ends of the run-end encoded layout: the run of a row with the rows left in it, and the runs of a range.
 // Follows arrow-data 60.1.0 src/transform/run.rs, Apache-2.0; see NOTICE.
+#![tactic(auto)]
 pub mod copies;
 
 ghost use Rattle.std.specs.Prelude.{◌≡◌, ◌+◌, ◌*◌, ◌≤◌, ◌<◌, length};
 ghost use Rattle.number.specs.Number.{entry};
-ghost use Rattle.run_ends_lem.specs.Lookup.{not_above, tally, passed, bisect, left_of, answered, found_run, format_run, Rising, last_end, span_of, runs_of, runs_between};
+ghost use Rattle.run_ends.specs.Lookup.{not_above, tally, passed, bisect, left_of, answered, found_run, format_run, Rising, last_end, span_of, runs_of, runs_between};
 
 // A row of the array, counted with the array's offset added: the caller of a sliced array adds it once.
-#[derive(Drop)]
+#[derive(Clone, Copy)]
 pub struct LogicalRow(pub u64);
 
 // A run, counted from the first run end.
-#[derive(Drop)]
+#[derive(Clone, Copy)]
 pub struct PhysicalRun(pub usize);
 
 // The run of a row, and how many rows from that one on stand in it and before the last; Past where no run ends above the row.
-#[derive(Drop)]
+#[derive(Clone, Copy)]
 pub enum Found {
     Run { run: PhysicalRun, left: u64 },
     Past,
 }
 
 // The runs of a range of rows: `count` from `first` on.
-#[derive(Drop)]
+#[derive(Clone, Copy)]
 pub enum Runs {
     Range { first: PhysicalRun, count: usize },
     None,

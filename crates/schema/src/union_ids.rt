@@ -4,7 +4,7 @@ ghost use Rattle.schema.specs.union_ids.Ids.{first_comma, id_of, id_list, ids_at
 ghost use Rattle.columnar.specs.Test.{same, member};
 
 // The ids of a union's fields: how many, or that they are not ids that a union may have.
-#[derive(Drop)]
+#[derive(Clone, Copy)]
 pub enum Ids {
     Count(u8),
     Bad,

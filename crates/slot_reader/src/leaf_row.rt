@@ -10,7 +10,7 @@ ghost use Rattle.columnar.specs.Plain.{value};
 ghost use Rattle.slot_reader.specs.leaf_row.Reading.{number_of, single_of, double_of, leaf_of, leaf_row_of, key_of, key_of_whole};
 
 // An f32 or f64 has no bits of its own where it is a NaN: a NaN is read as its bits.
-#[derive(Drop)]
+#[derive(Clone, Copy)]
 pub enum Leaf {
     Null,
     Signed(i64),
@@ -22,7 +22,7 @@ pub enum Leaf {
 }
 
 // What two leaves are compared by: 0 null, 1 a whole number from 0 on, 2 one below 0, 3 an f32, 4 an f64, with its bits.
-#[derive(Drop)]
+#[derive(Clone, Copy)]
 struct Key {
     kind: u8,
     bits: u64,

@@ -1,5 +1,6 @@
 // What one slot of a lent node reads as, by the node's kind: a number, bytes, or the place of a list's rows. The node's own validity is not
 // looked at; that of a dictionary's values is.
+#![tactic(auto)]
 pub mod leaf_row;
 pub mod run;
 pub mod view;
@@ -14,7 +15,7 @@ use array_data::entries::{Entry, Spot, Validity};
 use array_data::{entries, lent_tables, node_words};
 
 // A row: null, a number, bytes that stand in the body, or rows of a child; or the ground of refusal.
-#[derive(Drop)]
+#[derive(Clone, Copy)]
 pub enum RowRead {
     Null,
     Number(crate::leaf_row::Leaf),

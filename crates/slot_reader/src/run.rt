@@ -6,18 +6,18 @@ ghost use Rattle.slot_reader.specs.run.Rows.{row_run, ends_run};
 use run_ends::{Found, LogicalRow, PhysicalRun};
 
 // A row of the column, counted from its first: the offset is not added yet.
-#[derive(Drop)]
+#[derive(Clone, Copy)]
 pub struct ColumnRow(pub u64);
 
 // The run of a row, and how many rows of the column from that one on stand in it; or the ground of refusal.
-#[derive(Drop)]
+#[derive(Clone, Copy)]
 pub enum RowRun {
     Run { run: PhysicalRun, left: u64 },
     Refused(u8),
 }
 
 // A run-end column: its run ends of `width` bytes, its offset and its length.
-#[derive(Drop)]
+#[derive(Clone, Copy)]
 pub struct RunReader<'a> {
     pub ends: &'a [u8],
     pub offset: u64,

@@ -4,7 +4,7 @@ ghost use Rattle.clauses.specs.Slices.{was};
 ghost use Rattle.slot_reader.specs.view.Place.{place_of, part_of, Within};
 
 // Where the bytes of a view stand: in the views, in the data, or nowhere in them.
-#[derive(Drop)]
+#[derive(Clone, Copy)]
 pub enum Place {
     Inline { at: usize, len: usize },
     Data { at: usize, len: usize },

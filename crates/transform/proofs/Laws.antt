@@ -48,8 +48,8 @@ module _ (x : Lent) (counters room : List ℕ) where
   parts_refuse : (a b : Bool) (made : After) {g : ℕ} {room1 : List ℕ} → room1 ≡ room → g ≡ cond a (cond b 0 13) 14 → (g ≡ 0 → ⊥)
       → Answers (cond a (cond b made (refused x counters room 13)) (refused x counters room 14)) g counters room1
   parts_refuse true true made q e h = absurd (h e)
-  parts_refuse true false made q e h = record { ground = e; counters = refl; room = q }
-  parts_refuse false b made q e h = record { ground = e; counters = refl; room = q }
+  parts_refuse true false made q e h = record { refusal = e; counters = refl; room = q }
+  parts_refuse false b made q e h = record { refusal = e; counters = refl; room = q }
 
   parts_accept : (a b : Bool) (made : After) {g r : ℕ} {c bytes : List ℕ} → g ≡ cond a (cond b 0 13) 14 → g ≡ 0 → Answers made r c bytes
       → Answers (cond a (cond b made (refused x counters room 13)) (refused x counters room 14)) r c bytes
@@ -71,7 +71,7 @@ module _ (x : Lent) (counters room : List ℕ) where
 
     pub settled_no : (g ≡ 0 → ⊥) → Answers (settled x counters room (walk counters)) g counters room1
     unfolding settled
-    settled_no h = rw (ne_eqb (walk counters).ans 0 (λ z. h (answers ∙ z))) (record { ground = answers; counters = refl; room = same_room })
+    settled_no h = rw (ne_eqb (walk counters).ans 0 (λ z. h (answers ∙ z))) (record { refusal = answers; counters = refl; room = same_room })
 
     module _ (h : g ≡ 0) {p : ℕ} (e : p ≡ cond (parts_within x.plan x.parts (length room1)) (cond (parts_hold x.plan c1 x.parts) 0 13) 14) where
       asked : p ≡ cond (parts_within x.plan x.parts (length room)) (cond (parts_hold x.plan (walk counters).counters x.parts) 0 13) 14
@@ -82,7 +82,7 @@ module _ (x : Lent) (counters room : List ℕ) where
 
       pub settled_parts : (p ≡ 0 → ⊥) → Answers (settled x counters room (walk counters)) p counters room1
       unfolding settled
-      settled_parts f = rw (eq-eqb (walk counters).ans 0 (sym answers ∙ h)) (parts_refuse (parts_within x.plan x.parts (length room)) (parts_hold x.plan (walk counters).counters x.parts) (record { ground = 0; counters = (walk counters).counters; room = apply x.plan x.parts (walk counters).log room }) same_room asked f)
+      settled_parts f = rw (eq-eqb (walk counters).ans 0 (sym answers ∙ h)) (parts_refuse (parts_within x.plan x.parts (length room)) (parts_hold x.plan (walk counters).counters x.parts) (record { refusal = 0; counters = (walk counters).counters; room = apply x.plan x.parts (walk counters).log room }) same_room asked f)
 
       pub settled_made : {l2 : List ℕ} {r : ℕ} {c2 room2 c3 : List ℕ} → p ≡ 0 → l2 ≡ counters → Did x.plan x.parts true (walk l2) room1 r c2 room2 → c3 ≡ c2
           → Answers (settled x counters room (walk counters)) r c3 room2
@@ -91,8 +91,8 @@ module _ (x : Lent) (counters room : List ℕ) where
           let ans : (walk counters).ans ≡ 0 = sym answers ∙ h in
           let made : Did x.plan x.parts true (walk counters) room1 r c2 room2 = subst (λ l. Did x.plan x.parts true (walk l) room1 r c2 room2) q2 d2 in
           rw (eq-eqb (walk counters).ans 0 ans)
-          (parts_accept (parts_within x.plan x.parts (length room)) (parts_hold x.plan (walk counters).counters x.parts) (record { ground = 0; counters = (walk counters).counters; room = apply x.plan x.parts (walk counters).log room }) asked f
-          (record { ground = made.answer ∙ ans; counters = s ∙ made.counters; room = made.bytes ∙ ap (apply x.plan x.parts (walk counters).log) same_room }))
+          (parts_accept (parts_within x.plan x.parts (length room)) (parts_hold x.plan (walk counters).counters x.parts) (record { refusal = 0; counters = (walk counters).counters; room = apply x.plan x.parts (walk counters).log room }) asked f
+          (record { refusal = made.answer ∙ ans; counters = s ∙ made.counters; room = made.bytes ∙ ap (apply x.plan x.parts (walk counters).log) same_room }))
 
 -- ---- an order of nulls reads the plan alone
 
@@ -134,17 +134,17 @@ module _ (plan parts parts2 lengths lengths2 places places2 body body2 : List �
 module _ (x : Lent) (counters room : List ℕ) where
   pub copy_counters : (s a e : ℕ) → (length counters ≡ 96 → ⊥) → Answers (copy_order x counters room s a e) 14 counters room
   unfolding copy_order
-  copy_counters s a e h = rw (ne_eqb (length counters) 96 h) (record { ground = refl; counters = refl; room = refl })
+  copy_counters s a e h = rw (ne_eqb (length counters) 96 h) (record { refusal = refl; counters = refl; room = refl })
 
   pub copy_foreign : (s a e : ℕ) → length counters ≡ 96 → walkable x.plan (length room) ≡ false → Answers (copy_order x counters room s a e) 14 counters room
   unfolding copy_order
-  copy_foreign s a e h w = rw (eq-eqb (length counters) 96 h, w) (record { ground = refl; counters = refl; room = refl })
+  copy_foreign s a e h w = rw (eq-eqb (length counters) 96 h, w) (record { refusal = refl; counters = refl; room = refl })
 
   pub copy_source : (s a e : ℕ) → length counters ≡ 96 → walkable x.plan (length room) ≡ true → {m : ℕ} → m ≡ source_count x.plan → m ≤ s → Answers (copy_order x counters room s a e) 1 counters room
   unfolding copy_order
   copy_source s a e h w {m} q f =
       let g : source_count x.plan ≤ s = subst (λ z. z ≤ s) q f in
-      rw (eq-eqb (length counters) 96 h, w, le-ltb s (source_count x.plan) g) (record { ground = refl; counters = refl; room = refl })
+      rw (eq-eqb (length counters) 96 h, w, le-ltb s (source_count x.plan) g) (record { refusal = refl; counters = refl; room = refl })
 
   module _ (s a e : ℕ) (h : length counters ≡ 96) (w : walkable x.plan (length room) ≡ true) {m : ℕ} (q : m ≡ source_count x.plan) (f : s < m) {first : ℕ} (k : first ≡ get_or x.sources (2 * s) 0) where
     known : s < source_count x.plan
@@ -154,7 +154,7 @@ module _ (x : Lent) (counters room : List ℕ) where
     unfolding copy_order
     copy_range t =
         let u : (leb a e && leb e (source_length x s)) ≡ false = subst (λ z. (leb a e && leb e (get_or x.lengths (2 * z) 0)) ≡ false) k t in
-        rw (eq-eqb (length counters) 96 h, w, lt-ltb s (source_count x.plan) known, u) (record { ground = refl; counters = refl; room = refl })
+        rw (eq-eqb (length counters) 96 h, w, lt-ltb s (source_count x.plan) known, u) (record { refusal = refl; counters = refl; room = refl })
 
     pub copy_made : {r : ℕ} {c bytes : List ℕ} → (leb a e && leb e (get_or x.lengths (2 * first) 0)) ≡ true
         → Answers (settled x counters room (copy_walk (join x.plan x.parts x.lengths x.places x.body first s) 8 0 a (e - a) counters)) r c bytes
@@ -167,15 +167,15 @@ module _ (x : Lent) (counters room : List ℕ) where
 
   pub null_counters : (n : ℕ) → (length counters ≡ 96 → ⊥) → Answers (null_order x counters room n) 14 counters room
   unfolding null_order
-  null_counters n h = rw (ne_eqb (length counters) 96 h) (record { ground = refl; counters = refl; room = refl })
+  null_counters n h = rw (ne_eqb (length counters) 96 h) (record { refusal = refl; counters = refl; room = refl })
 
   pub null_foreign : (n : ℕ) → length counters ≡ 96 → walkable x.plan (length room) ≡ false → Answers (null_order x counters room n) 14 counters room
   unfolding null_order
-  null_foreign n h w = rw (eq-eqb (length counters) 96 h, w) (record { ground = refl; counters = refl; room = refl })
+  null_foreign n h w = rw (eq-eqb (length counters) 96 h, w) (record { refusal = refl; counters = refl; room = refl })
 
   pub null_keeps : (n : ℕ) → length counters ≡ 96 → walkable x.plan (length room) ≡ true → {k : ℕ} → k ≡ keeps_of x.plan 0 → k ≡ 0 → Answers (null_order x counters room n) 3 counters room
   unfolding null_order
-  null_keeps n h w q z = rw (eq-eqb (length counters) 96 h, w, eq-eqb (keeps_of x.plan 0) 0 (sym q ∙ z)) (record { ground = refl; counters = refl; room = refl })
+  null_keeps n h w q z = rw (eq-eqb (length counters) 96 h, w, eq-eqb (keeps_of x.plan 0) 0 (sym q ∙ z)) (record { refusal = refl; counters = refl; room = refl })
 
   pub null_made : (n : ℕ) {m : ℕ} → length counters ≡ 96 → walkable x.plan (length room) ≡ true → {k : ℕ} → k ≡ keeps_of x.plan 0 → (k ≡ 0 → ⊥) → m ≡ min n far → {r : ℕ} {c bytes : List ℕ}
       → Answers (settled x counters room (null_walk (join x.plan x.parts [] [] [] 0 0) 8 0 m counters)) r c bytes → Answers (null_order x counters room n) r c bytes

@@ -11,7 +11,7 @@ pub use Rattle.refinement.specs.orders.Order.{lent}
 
 -- the ground that is answered, and the counters and the room as they are left
 pub record Answers (a : After) (r : ℕ) (tally bytes : List ℕ) : Type 0 where
-  pub ground : r ≡ a.ground
+  pub refusal : r ≡ a.refusal
   pub counters : tally ≡ a.counters
   pub room : bytes ≡ a.room
 

@@ -2,6 +2,7 @@
 // A copy is tried without a look at validity bits, and counts its nulls where it is made. Of a leaf (`leaf_rows`, `leaf_nulls`) and a list of numbers
 // (`list_rows`, `list_nulls`) and of a sparse union of numbers (`sparse_rows`, `sparse_nulls`) no walk is tried; a type that is one node of numbers goes a shorter way still (`numbers`, `number_nulls`).
 // Follows `try_extend` and `try_extend_nulls` of arrow-data 60.1.0 src/transform/mod.rs, Apache-2.0; see NOTICE.
+#![tactic(auto)]
 mod leaf_bits;
 mod leaf_counters;
 mod leaf_nulls;

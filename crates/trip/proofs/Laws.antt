@@ -142,31 +142,31 @@ module _ (words : List ℕ) where
         (rw (length_calls n 0, le-leb n 256 h) refl)
 
     -- 9, place 0, before anything else
-    pub too_many : (e : Ended) → 256 < length words / 4 → (e.ground ≡ 9) × (e.place ≡ 0) → Ends (trip_order x c r (calls_of words)) e c r
+    pub too_many : (e : Ended) → 256 < length words / 4 → (e.refusal ≡ 9) × (e.place ≡ 0) → Ends (trip_order x c r (calls_of words)) e c r
     unfolding trip_order
-    too_many e h q = rw (length_calls (length words / 4) 0, lt-leb (length words / 4) 256 h) (record { ground = q.0; place = q.1; counters = refl; room = refl })
+    too_many e h q = rw (length_calls (length words / 4) 0, lt-leb (length words / 4) 256 h) (record { refusal = q.0; place = q.1; counters = refl; room = refl })
 
     -- an empty list is accepted, whatever is lent
-    pub no_orders : (e : Ended) {n : ℕ} → n ≤ 256 → n ≡ length words / 4 → n ≡ 0 → (e.ground ≡ 0) × (e.place ≡ 0) → Ends (trip_order x c r (calls_of words)) e c r
+    pub no_orders : (e : Ended) {n : ℕ} → n ≤ 256 → n ≡ length words / 4 → n ≡ 0 → (e.refusal ≡ 0) × (e.place ≡ 0) → Ends (trip_order x c r (calls_of words)) e c r
     unfolding carried calls_from
-    no_orders e {n} h l z q = rw (within_reach h l, z) (record { ground = q.0; place = q.1; counters = refl; room = refl })
+    no_orders e {n} h l z q = rw (within_reach h l, z) (record { refusal = q.0; place = q.1; counters = refl; room = refl })
 
     -- 14 at the first order, whatever it is
-    first_foreign : (n : ℕ) → (n ≡ 0 → ⊥) → ((o : Call) → (ordered x c r o).ground ≡ 14) → (e : Ended) → (e.ground ≡ 14) × (e.place ≡ 0) → Ends (carried x c r 0 c r (calls_from words n 0)) e c r
+    first_foreign : (n : ℕ) → (n ≡ 0 → ⊥) → ((o : Call) → (ordered x c r o).refusal ≡ 14) → (e : Ended) → (e.refusal ≡ 14) × (e.place ≡ 0) → Ends (carried x c r 0 c r (calls_from words n 0)) e c r
     unfolding carried calls_from
-    first_foreign n z f e q = rw (some_order n z, f (call_at words 0)) (record { ground = q.0; place = q.1; counters = refl; room = refl })
+    first_foreign n z f e q = rw (some_order n z, f (call_at words 0)) (record { refusal = q.0; place = q.1; counters = refl; room = refl })
 
-    not_counters : (length c ≡ 96 → ⊥) → (o : Call) → (ordered x c r o).ground ≡ 14
+    not_counters : (length c ≡ 96 → ⊥) → (o : Call) → (ordered x c r o).refusal ≡ 14
     unfolding copy_order null_order
     not_counters h (copy s a e) = rw (ne_eqb (length c) 96 h) refl
     not_counters h (nulls n) = rw (ne_eqb (length c) 96 h) refl
 
-    not_walkable : length c ≡ 96 → walkable x.plan (length r) ≡ false → (o : Call) → (ordered x c r o).ground ≡ 14
+    not_walkable : length c ≡ 96 → walkable x.plan (length r) ≡ false → (o : Call) → (ordered x c r o).refusal ≡ 14
     unfolding copy_order null_order
     not_walkable h w (copy s a e) = rw (eq-eqb (length c) 96 h, w) refl
     not_walkable h w (nulls n) = rw (eq-eqb (length c) 96 h, w) refl
 
-    module _ (e : Ended) {n : ℕ} (few : n ≤ 256) (l : n ≡ length words / 4) (some : n ≡ 0 → ⊥) (q : (e.ground ≡ 14) × (e.place ≡ 0)) where
+    module _ (e : Ended) {n : ℕ} (few : n ≤ 256) (l : n ≡ length words / 4) (some : n ≡ 0 → ⊥) (q : (e.refusal ≡ 14) × (e.place ≡ 0)) where
       pub foreign_counters : (length c ≡ 96 → ⊥) → Ends (trip_order x c r (calls_of words)) e c r
       foreign_counters h = rw (within_reach few l) (first_foreign n some (not_counters h) e q)
 
@@ -175,30 +175,30 @@ module _ (words : List ℕ) where
 
     -- the list tried, from counters that answer alike
     module _ {n : ℕ} (few : n ≤ 256) (l : n ≡ length words / 4) (h : length c ≡ 96) (w : walkable x.plan (length r) ≡ true) {within : Bool} (q : within ≡ parts_within x.plan x.parts (length r))
-        {d none d2 none2 : List ℕ} (near : Alike d c) (e : Ended) (s : Stepped x.plan x.parts false (step_at x true within words) n 0 d none e.ground e.place d2 none2) where
+        {d none d2 none2 : List ℕ} (near : Alike d c) (e : Ended) (s : Stepped x.plan x.parts false (step_at x true within words) n 0 d none e.refusal e.place d2 none2) where
       abbrev all : AfterTrip
       all = carried x c r 0 c r (calls_from words n 0)
 
-      same_answer : (e.ground ≡ all.ground) × (e.place ≡ all.place)
+      same_answer : (e.refusal ≡ all.refusal) × (e.place ≡ all.place)
       same_answer =
           let t = subst (λ z. Tried x words c r z n 0 d all) (sym q) (tried x words c r (length r) w n 0 c r d near h refl) in
           (s.did.answer ∙ t.tried_ground, s.place ∙ t.tried_place)
 
       -- refused
-      pub given_up_lem : (e.ground ≡ 0 → ⊥) → Ends (trip_order x c r (calls_of words)) e c r
+      pub given_up_lem : (e.refusal ≡ 0 → ⊥) → Ends (trip_order x c r (calls_of words)) e c r
       given_up_lem f =
           let k = carried_keeps x words c r (calls_from words n 0) 0 c r (λ z. f (same_answer.0 ∙ z)) in
-          rw (within_reach few l) (record { ground = same_answer.0; place = same_answer.1; counters = sym k.0; room = sym k.1 })
+          rw (within_reach few l) (record { refusal = same_answer.0; place = same_answer.1; counters = sym k.0; room = sym k.1 })
 
       -- and written
-      pub carried_out_lem : e.ground ≡ 0 → (e2 : Ended) (b : Bool) {c1 c2 c3 room2 : List ℕ} → c1 ≡ c → Stepped x.plan x.parts true (step_at x false b words) n 0 c1 r e2.ground e2.place c2 room2 → c3 ≡ c2
+      pub carried_out_lem : e.refusal ≡ 0 → (e2 : Ended) (b : Bool) {c1 c2 c3 room2 : List ℕ} → c1 ≡ c → Stepped x.plan x.parts true (step_at x false b words) n 0 c1 r e2.refusal e2.place c2 room2 → c3 ≡ c2
           → Ends (trip_order x c r (calls_of words)) e2 c3 room2
       unfolding apply_if
       carried_out_lem z e2 b {c2 = c2} {room2 = room2} y s2 v =
           let u = written x words c r b n 0 c r (sym same_answer.0 ∙ z) in
-          let t = subst (λ a. Stepped x.plan x.parts true (step_at x false b words) n 0 a r e2.ground e2.place c2 room2) y s2 in
+          let t = subst (λ a. Stepped x.plan x.parts true (step_at x false b words) n 0 a r e2.refusal e2.place c2 room2) y s2 in
           rw (within_reach few l)
-          (record { ground = t.did.answer ∙ u.ground_is; place = t.place ∙ u.place_is; counters = v ∙ t.did.counters ∙ u.counters_are; room = t.did.bytes ∙ u.room_is })
+          (record { refusal = t.did.answer ∙ u.ground_is; place = t.place ∙ u.place_is; counters = v ∙ t.did.counters ∙ u.counters_are; room = t.did.bytes ∙ u.room_is })
 
   -- ---- measured
 
@@ -208,29 +208,29 @@ module _ (words : List ℕ) where
     measured_reach {n} h e = subst (λ z. cond (leb (length (calls_from words z 0)) 256) (measured_trip x c 0 c (calls_from words z 0)) (unasked x c 9 0) ≡ measured_trip x c 0 c (calls_from words n 0)) e
         (rw (length_calls n 0, le-leb n 256 h) refl)
 
-    pub measures_too_many : (e : Ended) → 256 < length words / 4 → (e.ground ≡ 9) × (e.place ≡ 0) → Asks (trip_measure x c (calls_of words)) e c
+    pub measures_too_many : (e : Ended) → 256 < length words / 4 → (e.refusal ≡ 9) × (e.place ≡ 0) → Asks (trip_measure x c (calls_of words)) e c
     unfolding trip_measure
-    measures_too_many e h q = rw (length_calls (length words / 4) 0, lt-leb (length words / 4) 256 h) (record { ground = q.0; place = q.1; counters = refl })
+    measures_too_many e h q = rw (length_calls (length words / 4) 0, lt-leb (length words / 4) 256 h) (record { refusal = q.0; place = q.1; counters = refl })
 
-    pub measures_none : (e : Ended) {n : ℕ} → n ≤ 256 → n ≡ length words / 4 → n ≡ 0 → (e.ground ≡ 0) × (e.place ≡ 0) → Asks (trip_measure x c (calls_of words)) e c
+    pub measures_none : (e : Ended) {n : ℕ} → n ≤ 256 → n ≡ length words / 4 → n ≡ 0 → (e.refusal ≡ 0) × (e.place ≡ 0) → Asks (trip_measure x c (calls_of words)) e c
     unfolding measured_trip calls_from
-    measures_none e {n} h l z q = rw (measured_reach h l, z) (record { ground = q.0; place = q.1; counters = refl })
+    measures_none e {n} h l z q = rw (measured_reach h l, z) (record { refusal = q.0; place = q.1; counters = refl })
 
-    measured_foreign : (n : ℕ) → (n ≡ 0 → ⊥) → ((o : Call) → (order_measure x c o).ground ≡ 14) → (e : Ended) → (e.ground ≡ 14) × (e.place ≡ 0) → Asks (measured_trip x c 0 c (calls_from words n 0)) e c
+    measured_foreign : (n : ℕ) → (n ≡ 0 → ⊥) → ((o : Call) → (order_measure x c o).refusal ≡ 14) → (e : Ended) → (e.refusal ≡ 14) × (e.place ≡ 0) → Asks (measured_trip x c 0 c (calls_from words n 0)) e c
     unfolding measured_trip calls_from
-    measured_foreign n z f e q = rw (some_order n z, f (call_at words 0)) (record { ground = q.0; place = q.1; counters = refl })
+    measured_foreign n z f e q = rw (some_order n z, f (call_at words 0)) (record { refusal = q.0; place = q.1; counters = refl })
 
-    measures_not_counters : (length c ≡ 96 → ⊥) → (o : Call) → (order_measure x c o).ground ≡ 14
+    measures_not_counters : (length c ≡ 96 → ⊥) → (o : Call) → (order_measure x c o).refusal ≡ 14
     unfolding copy_measure null_measure
     measures_not_counters h (copy s a e) = rw (ne_eqb (length c) 96 h) refl
     measures_not_counters h (nulls n) = rw (ne_eqb (length c) 96 h) refl
 
-    measures_not_plan : length c ≡ 96 → plan_sound x.plan ≡ false → (o : Call) → (order_measure x c o).ground ≡ 14
+    measures_not_plan : length c ≡ 96 → plan_sound x.plan ≡ false → (o : Call) → (order_measure x c o).refusal ≡ 14
     unfolding copy_measure null_measure
     measures_not_plan h w (copy s a e) = rw (eq-eqb (length c) 96 h, w) refl
     measures_not_plan h w (nulls n) = rw (eq-eqb (length c) 96 h, w) refl
 
-    module _ (e : Ended) {n : ℕ} (few : n ≤ 256) (l : n ≡ length words / 4) (some : n ≡ 0 → ⊥) (q : (e.ground ≡ 14) × (e.place ≡ 0)) where
+    module _ (e : Ended) {n : ℕ} (few : n ≤ 256) (l : n ≡ length words / 4) (some : n ≡ 0 → ⊥) (q : (e.refusal ≡ 14) × (e.place ≡ 0)) where
       pub measures_counters : (length c ≡ 96 → ⊥) → Asks (trip_measure x c (calls_of words)) e c
       measures_counters h = rw (measured_reach few l) (measured_foreign n some (measures_not_counters h) e q)
 
@@ -238,21 +238,21 @@ module _ (words : List ℕ) where
       measures_plan h w = rw (measured_reach few l) (measured_foreign n some (measures_not_plan h w) e q)
 
     module _ {n : ℕ} (few : n ≤ 256) (l : n ≡ length words / 4) (h : length c ≡ 96) (w : plan_sound x.plan ≡ true) {c1 none c2 none2 : List ℕ} (y : c1 ≡ c) (e : Ended)
-        (s : Stepped x.plan x.parts false (step_at x false false words) n 0 c1 none e.ground e.place c2 none2) where
+        (s : Stepped x.plan x.parts false (step_at x false false words) n 0 c1 none e.refusal e.place c2 none2) where
       abbrev asked : AskedTrip
       asked = measured_trip x c 0 c (calls_from words n 0)
 
-      steps : Stepped x.plan x.parts false (step_at x false false words) n 0 c none e.ground e.place c2 none2
-      steps = subst (λ a. Stepped x.plan x.parts false (step_at x false false words) n 0 a none e.ground e.place c2 none2) y s
+      steps : Stepped x.plan x.parts false (step_at x false false words) n 0 c none e.refusal e.place c2 none2
+      steps = subst (λ a. Stepped x.plan x.parts false (step_at x false false words) n 0 a none e.refusal e.place c2 none2) y s
 
-      pub measures_refused : (e.ground ≡ 0 → ⊥) → Asks (trip_measure x c (calls_of words)) e c
+      pub measures_refused : (e.refusal ≡ 0 → ⊥) → Asks (trip_measure x c (calls_of words)) e c
       measures_refused f =
           let u = measured_list x words c w n 0 c h in
           let g = steps.did.answer ∙ u.ground_is in
-          rw (measured_reach few l) (record { ground = g; place = steps.place ∙ u.place_is; counters = sym (u.counters_stay (λ z. f (g ∙ z))) })
+          rw (measured_reach few l) (record { refusal = g; place = steps.place ∙ u.place_is; counters = sym (u.counters_stay (λ z. f (g ∙ z))) })
 
-      pub measures_made : e.ground ≡ 0 → {c3 : List ℕ} → c3 ≡ c2 → Asks (trip_measure x c (calls_of words)) e c3
+      pub measures_made : e.refusal ≡ 0 → {c3 : List ℕ} → c3 ≡ c2 → Asks (trip_measure x c (calls_of words)) e c3
       measures_made z v =
           let u = measured_list x words c w n 0 c h in
           let g = steps.did.answer ∙ u.ground_is in
-          rw (measured_reach few l) (record { ground = g; place = steps.place ∙ u.place_is; counters = v ∙ steps.did.counters ∙ u.counters_are (sym g ∙ z) })
+          rw (measured_reach few l) (record { refusal = g; place = steps.place ∙ u.place_is; counters = v ∙ steps.did.counters ∙ u.counters_are (sym g ∙ z) })

@@ -16,8 +16,8 @@ use Rattle.schema.specs.formats.Code.{is_fixed, is_string, is_view, is_list_view
 use Rattle.utils.specs.Extension.{extended}
 use Rattle.utils.specs.declared.Extended.{Extended}
 use Rattle.utils.specs.declared.Extended.TheVariants.{Fits, Over, Falls}
-use Rattle.run_ends_lem.specs.declared.Runs.{Runs}
-use Rattle.run_ends_lem.specs.declared.Runs.TheVariants.{Range, None}
+use Rattle.run_ends.specs.declared.Runs.{Runs}
+use Rattle.run_ends.specs.declared.Runs.TheVariants.{Range, None}
 use Rattle.walk.specs.State.{Join, code_of, dictionary_of, end_of, keeps_of, bytes_of, rows, bytes, gap, place, far, add_rows}
 use Rattle.walk.specs.Log.{Entry, put, mask, amend, start_of, in_room, enter, Log, apply, Out, fail, done, wrote, need, found, next, each}
 use Rattle.walk.specs.Leaves.{copy_bits, copy_mask, null_mask, count_nulls, copy_numbers, copy_keys, copy_views, null_numbers, put_string, put_extended, copy_string, null_string}

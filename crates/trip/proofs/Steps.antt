@@ -49,14 +49,14 @@ module _ (x : Lent) (c r : List ℕ) (h : length c ≡ 96) where
   unfolding copy_measure null_measure order_walk need fail measured
   measure_is w (copy s a e) = rw (eq-eqb (length c) 96 h, w) (go (ltb s (source_count x.plan)) (leb a e && leb e (source_length x s)))
     where
-      go : (p q : Bool) → cond p (cond q (measured c (copy_walk (join_of x s) 8 0 a (e - a) c)) (record { ground = 2; counters = c })) (record { ground = 1; counters = c })
+      go : (p q : Bool) → cond p (cond q (measured c (copy_walk (join_of x s) 8 0 a (e - a) c)) (record { refusal = 2; counters = c })) (record { refusal = 1; counters = c })
           ≡ measured c (cond p (cond q (copy_walk (join_of x s) 8 0 a (e - a) c) (fail 2 c)) (fail 1 c))
       go true true = refl
       go true false = refl
       go false q = refl
   measure_is w (nulls n) = rw (eq-eqb (length c) 96 h, w) (go (eqb (keeps_of x.plan 0) 0))
     where
-      go : (p : Bool) → cond p (record { ground = 3; counters = c }) (measured c (null_walk (join_of x 0) 8 0 (min n far) c))
+      go : (p : Bool) → cond p (record { refusal = 3; counters = c }) (measured c (null_walk (join_of x 0) 8 0 (min n far) c))
           ≡ measured c (cond (not p) (null_walk (join_of x 0) 8 0 (min n far) c) (fail 3 c))
       go true = refl
       go false = refl
@@ -70,13 +70,13 @@ module _ (x : Lent) (c r : List ℕ) (w : Out) where
   abbrev answers : Bool → Bool → Bool → After
   answers a b d =
       cond a
-      (cond b (cond d (record { ground = 0; counters = w.counters; room = apply x.plan x.parts w.log r }) (refused x c r 13)) (refused x c r 14))
+      (cond b (cond d (record { refusal = 0; counters = w.counters; room = apply x.plan x.parts w.log r }) (refused x c r 13)) (refused x c r 14))
       (refused x c r w.ans)
 
   -- tried: the ground of the order, and where it is accepted, its counters
   record Step (o : Out) (a : After) : Type 0 where
-    answer : o.ans ≡ a.ground
-    left : a.ground ≡ 0 → o.counters ≡ a.counters
+    answer : o.ans ≡ a.refusal
+    left : a.refusal ≡ 0 → o.counters ≡ a.counters
 
   settled_step : Step (asks (parts_within x.plan x.parts (length r))) (settled x c r w)
   unfolding settled next need done fail
@@ -94,14 +94,14 @@ module _ (x : Lent) (c r : List ℕ) (w : Out) where
     counters_left : a.counters ≡ o.counters
     room_left : a.room ≡ apply x.plan x.parts o.log r
 
-  settled_made : (settled x c r w).ground ≡ 0 → Made (next w (λ c2. done c2)) (settled x c r w)
+  settled_made : (settled x c r w).refusal ≡ 0 → Made (next w (λ c2. done c2)) (settled x c r w)
   unfolding settled next done
   settled_made = go (eqb w.ans 0) refl (parts_within x.plan x.parts (length r)) (parts_hold x.plan w.counters x.parts)
     where
       logged : apply x.plan x.parts w.log r ≡ apply x.plan x.parts (w.log ++ []) r
       logged = ap (λ l. apply x.plan x.parts l r) (sym (append-nil w.log))
 
-      go : (a : Bool) → eqb w.ans 0 ≡ a → (b d : Bool) → (answers a b d).ground ≡ 0 → Made (next w (λ c2. done c2)) (answers a b d)
+      go : (a : Bool) → eqb w.ans 0 ≡ a → (b d : Bool) → (answers a b d).refusal ≡ 0 → Made (next w (λ c2. done c2)) (answers a b d)
       go true e true true z = rw e (record { no_ground = refl; counters_left = refl; room_left = logged })
       go true e true false z = absurd (omega (arith, z))
       go true e false d z = absurd (omega (arith, z))
@@ -130,14 +130,14 @@ module _ (x : Lent) (c r : List ℕ) (w : Out) where
 
   -- measured: without parts
   record Asks (o : Out) (a : Measured) : Type 0 where
-    answer : o.ans ≡ a.ground
-    left : a.ground ≡ 0 → o.counters ≡ a.counters
+    answer : o.ans ≡ a.refusal
+    left : a.refusal ≡ 0 → o.counters ≡ a.counters
 
   measured_step : Asks (next w (λ c2. done c2)) (measured c w)
   unfolding measured next done
   measured_step = go (eqb w.ans 0) refl
     where
-      go : (a : Bool) → eqb w.ans 0 ≡ a → Asks (next w (λ c2. done c2)) (cond a (record { ground = 0; counters = w.counters }) (record { ground = w.ans; counters = c }))
+      go : (a : Bool) → eqb w.ans 0 ≡ a → Asks (next w (λ c2. done c2)) (cond a (record { refusal = 0; counters = w.counters }) (record { refusal = w.ans; counters = c }))
       go true e = rw e (record { answer = refl; left = λ z. refl })
       go false e = rw e (record { answer = refl; left = λ z. absurd (eqb-false _ _ e z) })
 
@@ -152,25 +152,25 @@ module _ (x : Lent) (words c0 r0 : List ℕ) where
   goes n k c r = carried x c0 r0 k c r (calls_from words n k)
 
   -- REFUSED, IT CHANGES NOTHING
-  pub carried_keeps : (os : List Call) (k : ℕ) (c r : List ℕ) → ((carried x c0 r0 k c r os).ground ≡ 0 → ⊥)
+  pub carried_keeps : (os : List Call) (k : ℕ) (c r : List ℕ) → ((carried x c0 r0 k c r os).refusal ≡ 0 → ⊥)
       → ((carried x c0 r0 k c r os).counters ≡ c0) × ((carried x c0 r0 k c r os).room ≡ r0)
   unfolding carried
   carried_keeps [] k c r h = absurd (h refl)
-  carried_keeps (o ∷ os) k c r h = go (eqb (ordered x c r o).ground 0) (carried_keeps os (suc k) (ordered x c r o).counters (ordered x c r o).room) h
+  carried_keeps (o ∷ os) k c r h = go (eqb (ordered x c r o).refusal 0) (carried_keeps os (suc k) (ordered x c r o).counters (ordered x c r o).room) h
     where
       rest : AfterTrip
       rest = carried x c0 r0 (suc k) (ordered x c r o).counters (ordered x c r o).room os
 
       whole : Bool → AfterTrip
-      whole b = cond b rest (given_up x c0 r0 (ordered x c r o).ground k)
+      whole b = cond b rest (given_up x c0 r0 (ordered x c r o).refusal k)
 
-      go : (b : Bool) → ((rest.ground ≡ 0 → ⊥) → (rest.counters ≡ c0) × (rest.room ≡ r0)) → ((whole b).ground ≡ 0 → ⊥) → ((whole b).counters ≡ c0) × ((whole b).room ≡ r0)
+      go : (b : Bool) → ((rest.refusal ≡ 0 → ⊥) → (rest.counters ≡ c0) × (rest.room ≡ r0)) → ((whole b).refusal ≡ 0 → ⊥) → ((whole b).counters ≡ c0) × ((whole b).room ≡ r0)
       go true f h = f h
       go false f h = (refl, refl)
 
   -- TRIED: the ground and the place are those of the list
   pub record Tried (within : Bool) (n k : ℕ) (d : List ℕ) (a : AfterTrip) : Type 0 where
-    pub tried_ground : (each (step_at x true within words) n k d).ans ≡ a.ground
+    pub tried_ground : (each (step_at x true within words) n k d).ans ≡ a.refusal
     pub tried_place : stops_at (step_at x true within words) n k d ≡ a.place
 
   module _ (m : ℕ) (w : walkable x.plan m ≡ true) where
@@ -178,8 +178,8 @@ module _ (x : Lent) (words c0 r0 : List ℕ) where
     within = parts_within x.plan x.parts m
 
     record Next (o : Call) (d : List ℕ) (a : After) : Type 0 where
-      answer : (order_step x true within o d).ans ≡ a.ground
-      alike : a.ground ≡ 0 → Alike (order_step x true within o d).counters a.counters
+      answer : (order_step x true within o d).ans ≡ a.refusal
+      alike : a.refusal ≡ 0 → Alike (order_step x true within o d).counters a.counters
       long : length a.counters ≡ 96
       as_long : length a.room ≡ m
 
@@ -191,8 +191,8 @@ module _ (x : Lent) (words c0 r0 : List ℕ) where
         let n = near_step x true within o near in
         let q : order_step x true within o c ≡ asks x c r (order_walk x o c) (parts_within x.plan x.parts (length r)) = ap (λ z. asks x c r (order_walk x o c) (parts_within x.plan x.parts z)) (sym l) in
         record {
-          answer = n.answer ∙ ap (λ z. z.ans) q ∙ s.answer ∙ ap (λ z. z.ground) (sym e);
-          alike = λ z. alike_to n.counters (ap (λ z. z.counters) q ∙ s.left (sym (ap (λ z. z.ground) e) ∙ z) ∙ ap (λ z. z.counters) (sym e));
+          answer = n.answer ∙ ap (λ z. z.ans) q ∙ s.answer ∙ ap (λ z. z.refusal) (sym e);
+          alike = λ z. alike_to n.counters (ap (λ z. z.counters) q ∙ s.left (sym (ap (λ z. z.refusal) e) ∙ z) ∙ ap (λ z. z.counters) (sym e));
           long = ap (λ z. length z.counters) e ∙ settled_long x c r (order_walk x o c) h (long_order x o (record { size = h })).left.size;
           as_long = ap (λ z. length z.room) e ∙ settled_room x c r (order_walk x o c) ∙ l;
         }
@@ -202,12 +202,12 @@ module _ (x : Lent) (words c0 r0 : List ℕ) where
     tried zero k c r d near h l = record { tried_ground = refl; tried_place = refl }
     tried (suc n) k c r d near h l =
         let s = next_order (call_at words k) c r d near h l in
-        go (ordered x c r (call_at words k)) s (eqb (ordered x c r (call_at words k)).ground 0) refl
+        go (ordered x c r (call_at words k)) s (eqb (ordered x c r (call_at words k)).refusal 0) refl
         (λ q. tried n (suc k) (ordered x c r (call_at words k)).counters (ordered x c r (call_at words k)).room (order_step x true within (call_at words k) d).counters (s.alike q) s.long s.as_long)
       where
-        go : (a : After) → Next (call_at words k) d a → (b : Bool) → eqb a.ground 0 ≡ b
-            → (a.ground ≡ 0 → Tried within n (suc k) (order_step x true within (call_at words k) d).counters (goes n (suc k) a.counters a.room))
-            → Tried within (suc n) k d (cond b (goes n (suc k) a.counters a.room) (given_up x c0 r0 a.ground k))
+        go : (a : After) → Next (call_at words k) d a → (b : Bool) → eqb a.refusal 0 ≡ b
+            → (a.refusal ≡ 0 → Tried within n (suc k) (order_step x true within (call_at words k) d).counters (goes n (suc k) a.counters a.room))
+            → Tried within (suc n) k d (cond b (goes n (suc k) a.counters a.room) (given_up x c0 r0 a.refusal k))
         go a s true e f =
             let t = f (eqb-true _ _ e) in
             let z : eqb (order_step x true within (call_at words k) d).ans 0 ≡ true = rw s.answer e in
@@ -218,16 +218,16 @@ module _ (x : Lent) (words c0 r0 : List ℕ) where
 
   -- WRITTEN, where the list is accepted: its counters, and the room with its log
   pub record Written (o : Out) (stop : ℕ) (r : List ℕ) (a : AfterTrip) : Type 0 where
-    pub ground_is : o.ans ≡ a.ground
+    pub ground_is : o.ans ≡ a.refusal
     pub place_is : stop ≡ a.place
     pub counters_are : o.counters ≡ a.counters
     pub room_is : apply x.plan x.parts o.log r ≡ a.room
 
-  pub written : (within : Bool) (n k : ℕ) (c r : List ℕ) → (goes n k c r).ground ≡ 0
+  pub written : (within : Bool) (n k : ℕ) (c r : List ℕ) → (goes n k c r).refusal ≡ 0
       → Written (each (step_at x false within words) n k c) (stops_at (step_at x false within words) n k c) r (goes n k c r)
   unfolding each stops_at calls_from carried done apply order_step next
   written within zero k c r h = record { ground_is = refl; place_is = refl; counters_are = refl; room_is = refl }
-  written within (suc n) k c r h = go (eqb (ordered x c r (call_at words k)).ground 0) refl h (written within n (suc k) (ordered x c r (call_at words k)).counters (ordered x c r (call_at words k)).room)
+  written within (suc n) k c r h = go (eqb (ordered x c r (call_at words k)).refusal 0) refl h (written within n (suc k) (ordered x c r (call_at words k)).counters (ordered x c r (call_at words k)).room)
     where
       a : After
       a = ordered x c r (call_at words k)
@@ -235,17 +235,17 @@ module _ (x : Lent) (words c0 r0 : List ℕ) where
       step : Out
       step = order_step x false within (call_at words k) c
 
-      made_step : a.ground ≡ 0 → Made x c r (order_walk x (call_at words k) c) step a
+      made_step : a.refusal ≡ 0 → Made x c r (order_walk x (call_at words k) c) step a
       made_step z =
           let v = walked x c r (call_at words k) z in
           let e = ordered_is x c r v.long (walked_in x c r v) (call_at words k) in
-          subst (Made x c r (order_walk x (call_at words k) c) step) (sym e) (settled_made x c r (order_walk x (call_at words k) c) (sym (ap (λ y. y.ground) e) ∙ z))
+          subst (Made x c r (order_walk x (call_at words k) c) step) (sym e) (settled_made x c r (order_walk x (call_at words k) c) (sym (ap (λ y. y.refusal) e) ∙ z))
 
-      go : (b : Bool) → eqb a.ground 0 ≡ b → (cond b (goes n (suc k) a.counters a.room) (given_up x c0 r0 a.ground k)).ground ≡ 0
-          → ((goes n (suc k) a.counters a.room).ground ≡ 0
+      go : (b : Bool) → eqb a.refusal 0 ≡ b → (cond b (goes n (suc k) a.counters a.room) (given_up x c0 r0 a.refusal k)).refusal ≡ 0
+          → ((goes n (suc k) a.counters a.room).refusal ≡ 0
           → Written (each (step_at x false within words) n (suc k) a.counters) (stops_at (step_at x false within words) n (suc k) a.counters) a.room (goes n (suc k) a.counters a.room))
           → Written (next step (λ c2. each (step_at x false within words) n (suc k) c2)) (cond (eqb step.ans 0) (stops_at (step_at x false within words) n (suc k) step.counters) k) r
-          (cond b (goes n (suc k) a.counters a.room) (given_up x c0 r0 a.ground k))
+          (cond b (goes n (suc k) a.counters a.room) (given_up x c0 r0 a.refusal k))
       go true e z f =
           let s = made_step (eqb-true _ _ e) in
           let t = subst (λ y. Written (each (step_at x false within words) n (suc k) y) (stops_at (step_at x false within words) n (suc k) y) a.room (goes n (suc k) a.counters a.room)) s.counters_left (f z) in
@@ -268,15 +268,15 @@ module _ (x : Lent) (words c0 : List ℕ) (w : plan_sound x.plan ≡ true) where
 
   -- MEASURED: the counters stay where it is refused
   pub record MeasuredIs (o : Out) (stop : ℕ) (a : AskedTrip) : Type 0 where
-    pub ground_is : o.ans ≡ a.ground
+    pub ground_is : o.ans ≡ a.refusal
     pub place_is : stop ≡ a.place
-    pub counters_are : a.ground ≡ 0 → o.counters ≡ a.counters
-    pub counters_stay : (a.ground ≡ 0 → ⊥) → a.counters ≡ c0
+    pub counters_are : a.refusal ≡ 0 → o.counters ≡ a.counters
+    pub counters_stay : (a.refusal ≡ 0 → ⊥) → a.counters ≡ c0
 
   pub measured_list : (n k : ℕ) (c : List ℕ) → length c ≡ 96 → MeasuredIs (each (step_at x false false words) n k c) (stops_at (step_at x false false words) n k c) (measures n k c)
   unfolding each stops_at calls_from measured_trip done order_step next
   measured_list zero k c h = record { ground_is = refl; place_is = refl; counters_are = λ z. refl; counters_stay = λ z. absurd (z refl) }
-  measured_list (suc n) k c h = go (eqb (order_measure x c (call_at words k)).ground 0) refl (λ y l. measured_list n (suc k) y l)
+  measured_list (suc n) k c h = go (eqb (order_measure x c (call_at words k)).refusal 0) refl (λ y l. measured_list n (suc k) y l)
     where
       a : Measured
       a = order_measure x c (call_at words k)
@@ -290,10 +290,10 @@ module _ (x : Lent) (words c0 : List ℕ) (w : plan_sound x.plan ≡ true) where
       step_long : length step.counters ≡ 96
       step_long = (long_next (λ c2. done c2) (long_order x (call_at words k) (record { size = h })) (λ c2 l. long_done l)).left.size
 
-      go : (b : Bool) → eqb a.ground 0 ≡ b
+      go : (b : Bool) → eqb a.refusal 0 ≡ b
           → ((y : List ℕ) → length y ≡ 96 → MeasuredIs (each (step_at x false false words) n (suc k) y) (stops_at (step_at x false false words) n (suc k) y) (measures n (suc k) y))
           → MeasuredIs (next step (λ c2. each (step_at x false false words) n (suc k) c2)) (cond (eqb step.ans 0) (stops_at (step_at x false false words) n (suc k) step.counters) k)
-          (cond b (measures n (suc k) a.counters) (unasked x c0 a.ground k))
+          (cond b (measures n (suc k) a.counters) (unasked x c0 a.refusal k))
       go true e f =
           let s = asks_step in
           let z = eqb-true _ _ e in

@@ -11,19 +11,19 @@ module _ (x : Lent) (counters room : List ℕ) where
   EachAccepted os = grounds_of x counters room os ≡ replicate (length os) 0
 
   -- "the first failing order": those before it are accepted
-  pub record FirstRefused (os : List Call) (ground place : ℕ) : Type 0 where
+  pub record FirstRefused (os : List Call) (refusal place : ℕ) : Type 0 where
     pub before : List Call
     pub failing : Call
     pub behind : List Call
     pub in_list : os ≡ before ++ failing ∷ behind
     pub before_accepted : EachAccepted before
-    pub ground_is : ground ≡ (ordered x (ordered_all x counters room before).counters (ordered_all x counters room before).room failing).ground
-    pub stands : ground ≡ 0 → ⊥
+    pub ground_is : refusal ≡ (ordered x (ordered_all x counters room before).counters (ordered_all x counters room before).room failing).refusal
+    pub stands : refusal ≡ 0 → ⊥
     pub place_is : place ≡ length before  -- "counted from 0"
 
   pub data Trip (os : List Call) (a : AfterTrip) : Type 0 where
     -- "all are carried out and the result is the same"
-    all_made : length os ≤ longest → EachAccepted os → a ≡ record { ground = 0; place = 0; counters = (ordered_all x counters room os).counters; room = (ordered_all x counters room os).room } → Trip os a
+    all_made : length os ≤ longest → EachAccepted os → a ≡ record { refusal = 0; place = 0; counters = (ordered_all x counters room os).counters; room = (ordered_all x counters room os).room } → Trip os a
     -- "otherwise none is"
-    none_made : length os ≤ longest → (EachAccepted os → ⊥) → FirstRefused os a.ground a.place → a.counters ≡ counters → a.room ≡ room → Trip os a
-    too_long : longest < length os → a ≡ record { ground = 9; place = 0; counters = counters; room = room } → Trip os a
+    none_made : length os ≤ longest → (EachAccepted os → ⊥) → FirstRefused os a.refusal a.place → a.counters ≡ counters → a.room ≡ room → Trip os a
+    too_long : longest < length os → a ≡ record { refusal = 9; place = 0; counters = counters; room = room } → Trip os a

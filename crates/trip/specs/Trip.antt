@@ -33,7 +33,7 @@ module _ (words : List ℕ) where
 
 -- ground: 0, or the number of the refusal; place: that of the order which got it
 pub record AfterTrip : Type 0 where
-  pub ground : ℕ
+  pub refusal : ℕ
   pub place : ℕ
   pub counters : List ℕ
   pub room : List ℕ
@@ -41,13 +41,13 @@ pub record AfterTrip : Type 0 where
 module _ (x : Lent) (counters room : List ℕ) where
   -- "otherwise none is": the counters and every byte stay
   abbrev pub given_up : ℕ → ℕ → AfterTrip
-  given_up g k = record { ground = g; place = k; counters = counters; room = room }
+  given_up g k = record { refusal = g; place = k; counters = counters; room = room }
 
   -- the orders from number k on: the first gets the counters c and the room r, each of the others what the one before it left
   unfoldable pub carried : ℕ → List ℕ → List ℕ → List Call → AfterTrip
-  carried k c r [] = record { ground = 0; place = 0; counters = c; room = r }
+  carried k c r [] = record { refusal = 0; place = 0; counters = c; room = r }
   carried k c r (o ∷ os) =
-      cond (eqb (ordered x c r o).ground 0) (carried (suc k) (ordered x c r o).counters (ordered x c r o).room os) (given_up (ordered x c r o).ground k)
+      cond (eqb (ordered x c r o).refusal 0) (carried (suc k) (ordered x c r o).counters (ordered x c r o).room os) (given_up (ordered x c r o).refusal k)
 
   -- A TRIP
   unfoldable pub trip_order : List Call → AfterTrip
@@ -56,7 +56,7 @@ module _ (x : Lent) (counters room : List ℕ) where
 -- ---- what is asked before room is lent: the same over the questions about single orders
 
 pub record AskedTrip : Type 0 where
-  pub ground : ℕ
+  pub refusal : ℕ
   pub place : ℕ
   pub counters : List ℕ
 
@@ -66,12 +66,12 @@ order_measure x c (nulls n) = null_measure c x n
 
 module _ (x : Lent) (counters : List ℕ) where
   abbrev pub unasked : ℕ → ℕ → AskedTrip
-  unasked g k = record { ground = g; place = k; counters = counters }
+  unasked g k = record { refusal = g; place = k; counters = counters }
 
   unfoldable pub measured_trip : ℕ → List ℕ → List Call → AskedTrip
-  measured_trip k c [] = record { ground = 0; place = 0; counters = c }
+  measured_trip k c [] = record { refusal = 0; place = 0; counters = c }
   measured_trip k c (o ∷ os) =
-      cond (eqb (order_measure x c o).ground 0) (measured_trip (suc k) (order_measure x c o).counters os) (unasked (order_measure x c o).ground k)
+      cond (eqb (order_measure x c o).refusal 0) (measured_trip (suc k) (order_measure x c o).counters os) (unasked (order_measure x c o).refusal k)
 
   unfoldable pub trip_measure : List Call → AskedTrip
   trip_measure os = cond (leb (length os) longest) (measured_trip 0 counters os) (unasked 9 0)

@@ -40,4 +40,4 @@ pub record Stepped (plan parts : List ℕ) (write : Bool) (f : ℕ → List ℕ 
 -- .. the steps from number 0 on, with the slices that it is lent
 abbrev pub Steps : (plan parts : Slice) → Bool → (ℕ → List ℕ → Out) → ℕ → (counters room : Slice) → Ended → Type 0
 Steps plan parts write f n counters room r =
-    Stepped (was plan) (was parts) write f n 0 (was counters) (was room) r.ground r.place (left counters) (left room)
+    Stepped (was plan) (was parts) write f n 0 (was counters) (was room) r.refusal r.place (left counters) (left room)

@@ -1,5 +1,6 @@
 // A trip's orders as one, all or none. Each is tried in turn, on a copy of the counters and without a look at validity bits, and only where
 // none is refused are they written, one after the other: every order is walked twice at most, and nothing is taken back.
+#![tactic(auto)]
 ghost use Rattle.std.specs.Prelude.{◌≡◌, [], true, cond, ◌<◌, ◌≤◌, ◌/◌, length};
 ghost use Rattle.clauses.specs.Slices.{was, left};
 ghost use Rattle.leaf_walk.specs.Walks.{Walks};
@@ -17,9 +18,9 @@ use walk::plan_words;
 mod order;
 
 // The ground, 0 where there is none, and the place of the order that got it.
-#[derive(Drop)]
+#[derive(Clone, Copy)]
 pub struct Ended {
-    pub ground: u8,
+    pub refusal: u8,
     pub place: u32,
 }
 
@@ -117,23 +118,23 @@ fn walk_orders(
         );
         if g != 0 {
             return Ended {
-                ground: g,
+                refusal: g,
                 place: k as u32,
             };
         }
         k += 1;
     }
     Ended {
-        ground: 0,
+        refusal: 0,
         place: 0,
     }
 }
 
 // A refusal at the first order.
-fn refused(ground: u8) -> Ended
-    ensures { (result.ground ≡ ground) × (result.place ≡ 0) }
+fn refused(refusal: u8) -> Ended
+    ensures { (result.refusal ≡ refusal) × (result.place ≡ 0) }
 {
-    Ended { ground, place: 0 }
+    Ended { refusal, place: 0 }
 }
 
 // The orders, all tried and then all written.
@@ -160,7 +161,7 @@ fn carry_out(
         plan, parts, sources, lengths, places, body, &mut tried, &mut none, false, true, within,
         orders, n,
     );
-    if e.ground != 0 {
+    if e.refusal != 0 {
         return e;
     }
     let mut tally = transform::load(counters);
@@ -238,7 +239,7 @@ pub fn measure_orders(
         plan, &parts, sources, lengths, places, body, &mut tally, &mut none, false, false, false,
         orders, n,
     );
-    if e.ground != 0 {
+    if e.refusal != 0 {
         return e;
     }
     let made = transform::copied(tally);

@@ -7,7 +7,7 @@ ghost use Rattle.utils.specs.byte_view.View.{view_at, view_bytes, reindexed_by, 
 // The bytes that a view holds inline.
 pub const MAX_INLINE_VIEW_LEN: u32 = 12;
 
-#[derive(Drop)]
+#[derive(Clone, Copy)]
 pub struct ByteView {
     pub length: u32,
     pub prefix: u32,

@@ -1,5 +1,6 @@
 // The room of bits, and the extension of offsets at both widths.
 // Follows arrow-data 60.1.0 src/transform/utils.rs and the extend_nulls of src/transform/variable_size.rs, Apache-2.0; see NOTICE.
+#![tactic(auto)]
 pub mod byte_view;
 pub mod primitive;
 
@@ -9,7 +10,7 @@ ghost use Rattle.utils.specs.Offsets.{largest, moved, first_above, moved_offsets
 ghost use Rattle.utils.specs.Extension.{extended, over_at};
 
 // What an extension of offsets comes to.
-#[derive(Drop)]
+#[derive(Clone, Copy)]
 pub enum Extended {
     // The destination's last offset afterwards, and the source's first one, where its bytes begin.
     Fits { last: u64, first: u64 },

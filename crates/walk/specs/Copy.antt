@@ -5,10 +5,10 @@ use Rattle.number.specs.Number.{entry, encode}
 use Rattle.columnar.specs.Types.{half}
 use Rattle.schema.specs.formats.Code.{is_fixed, is_string, is_view, is_list_view, is_list, is_sparse, is_dense}
 use Rattle.utils.specs.Offsets.{moved_offsets}
-use Rattle.run_ends_lem.specs.Lookup.{found_run, runs_of}
-use Rattle.run_ends_lem.specs.Clip.{clipped}
-use Rattle.run_ends_lem.specs.declared.Runs.{Runs}
-use Rattle.run_ends_lem.specs.declared.Runs.TheVariants.{Range, None}
+use Rattle.run_ends.specs.Lookup.{found_run, runs_of}
+use Rattle.run_ends.specs.Clip.{clipped}
+use Rattle.run_ends.specs.declared.Runs.{Runs}
+use Rattle.run_ends.specs.declared.Runs.TheVariants.{Range, None}
 use Rattle.walk.specs.State.{Join, code_of, dictionary_of, end_of, id_of, bytes_of, rows, add_rows, end_gap, place, length_of, offset_of, far, slot_of, rows_in}
 use Rattle.walk.specs.Log.{Out, put, fail, done, wrote, need, found, next, each}
 use Rattle.walk.specs.Leaves.{with_offsets, copy_mask, copy_numbers, copy_keys, copy_views, copy_string}

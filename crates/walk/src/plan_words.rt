@@ -27,7 +27,7 @@ pub const COUNTERS: usize = 96;
 pub const FAR: u64 = 9223372036854775808;
 
 // Where a write goes in the room, if it is made.
-#[derive(Drop)]
+#[derive(Clone, Copy)]
 pub enum Goal {
     At(usize),
     Skip,

@@ -1,5 +1,6 @@
 // The walk of the converter between widths, in code: one loop over the nodes of a column, each written in its turn. The same code tries, where it
 // changes the counters alone, and writes.
+#![tactic(auto)]
 mod dispatch;
 mod kinds;
 mod leaves;

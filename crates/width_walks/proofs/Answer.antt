@@ -85,7 +85,7 @@ module _ (formats schema : List ℕ) (x : Tables) (first n first' : ℕ) (parts 
 
   -- ---- the call on lent memory
 
-  module _ (own : ℕ) (plan counters room : List ℕ) (room_bytes : AllBelow 256 room) (accepted : (anew formats schema x first n own plan_made walk parts plan counters room).ground ≡ 0) where
+  module _ (own : ℕ) (plan counters room : List ℕ) (room_bytes : AllBelow 256 room) (accepted : (anew formats schema x first n own plan_made walk parts plan counters room).refusal ≡ 0) where
     abbrev answer : Opening
     answer = anew formats schema x first n own plan_made walk parts plan counters room
 

@@ -53,7 +53,7 @@ module _ (formats schema : List ℕ) (x : Tables) (first n target tn : ℕ) wher
       go false p = refl
 
   -- AN ACCEPTED CALL has a column that is well formed, and a target that passes
-  pub only_good : (parts plan counters room : List ℕ) → (convert formats schema x first n target tn parts plan counters room).ground ≡ 0
+  pub only_good : (parts plan counters room : List ℕ) → (convert formats schema x first n target tn parts plan counters room).refusal ≡ 0
       → (column_ground formats schema x first n ≡ 0) × (is_target formats schema first n target tn ≡ true) × (n ≡ tn)
   only_good parts plan counters room e =
       let a =
@@ -61,8 +61,8 @@ module _ (formats schema : List ℕ) (x : Tables) (first n target tn : ℕ) wher
       (a.column_good, passed a.own_none, (target_is formats schema first n target tn (passed a.own_none)).same_size)
 
   module _ (parts plan counters room : List ℕ) (small : small_body room ≡ true) where
-    abbrev ground : ℕ
-    ground = (convert formats schema x first n target tn parts plan counters room).ground
+    abbrev refusal : ℕ
+    refusal = (convert formats schema x first n target tn parts plan counters room).refusal
 
     abbrev of_room : ℕ
     of_room = room_ground (planned formats schema x first n target tn) (walked formats schema x first n target tn).counters parts (length plan) (length counters) (length room)
@@ -70,25 +70,25 @@ module _ (formats schema : List ℕ) (x : Tables) (first n target tn : ℕ) wher
     abbrev walk_answer : ℕ
     walk_answer = (walked formats schema x first n target tn).ans
 
-    ground_is : ground ≡ or_else (or_else (column_ground formats schema x first n) (or_else (target_ground formats schema x first n target tn) walk_answer)) of_room
+    ground_is : refusal ≡ or_else (or_else (column_ground formats schema x first n) (or_else (target_ground formats schema x first n target tn) walk_answer)) of_room
     unfolding ahead
     ground_is = anew_ground formats schema x first n (target_ground formats schema x first n target tn) (planned formats schema x first n target tn) (walked formats schema x first n target tn) parts plan counters room small
 
     -- A MALFORMED COLUMN is met before all else
-    pub column_first : (column_ground formats schema x first n ≡ 0 → ⊥) → ground ≡ column_ground formats schema x first n
+    pub column_first : (column_ground formats schema x first n ≡ 0 → ⊥) → refusal ≡ column_ground formats schema x first n
     column_first e =
         let a = or_first (column_ground formats schema x first n) (or_else (target_ground formats schema x first n target tn) walk_answer) e in
         ground_is ∙ ap (λ g. or_else g of_room) a ∙ or_first (column_ground formats schema x first n) of_room e
 
     module _ (ok : column_ground formats schema x first n ≡ 0) where
-      behind_column : ground ≡ or_else (or_else (target_ground formats schema x first n target tn) walk_answer) of_room
+      behind_column : refusal ≡ or_else (or_else (target_ground formats schema x first n target tn) walk_answer) of_room
       behind_column = ground_is ∙ ap (λ g. or_else g of_room) (or_zero _ _ ok)
 
       -- THEN 10 EXACTLY WHERE THE TARGET DIFFERS IN MORE THAN WIDTHS
-      pub target_next : is_target formats schema first n target tn ≡ false → ground ≡ 10
+      pub target_next : is_target formats schema first n target tn ≡ false → refusal ≡ 10
       target_next h = behind_column ∙ ap (λ g. or_else (or_else g walk_answer) of_room) (failing h)
 
-      behind_target : is_target formats schema first n target tn ≡ true → ground ≡ or_else walk_answer of_room
+      behind_target : is_target formats schema first n target tn ≡ true → refusal ≡ or_else walk_answer of_room
       behind_target h = behind_column ∙ ap (λ g. or_else g of_room) (or_zero _ _ (passing h))
 
 -- ---- a column that is accepted, and a target that passes: it has as many nodes (target_is)
@@ -114,17 +114,17 @@ module _ (formats schema : List ℕ) (x : Tables) (first n target : ℕ) (parts 
   room_answer = room_ground (planned formats schema x first n target n) (walked formats schema x first n target n).counters parts (length plan) (length counters) (length room)
 
   -- THEN 6, 7 OR 8, THE CONVERTER'S
-  pub number_next : small_body room ≡ true → (g : ℕ) → converted from to differs here ≡ stop g → answer.ground ≡ g
+  pub number_next : small_body room ≡ true → (g : ℕ) → converted from to differs here ≡ stop g → answer.refusal ≡ g
   number_next small g e =
       behind_target formats schema x first n target n parts plan counters room small ok h ∙ ap (λ a. or_else a room_answer) (walk_ground formats schema x first n target parts ok h bytes g e)
       ∙ or_first g room_answer (some_ground formats schema x first n target parts ok h bytes g (refused_with from to differs here g e))
 
   -- LAST 14 OR 13: WITH ROOM ENOUGH IT IS ACCEPTED WHERE EVERY NUMBER FITS
-  pub room_last : small_body room ≡ true → AllFit (numbers from to differs here) → answer.ground ≡ room_answer
+  pub room_last : small_body room ≡ true → AllFit (numbers from to differs here) → answer.refusal ≡ room_answer
   room_last small fit =
       behind_target formats schema x first n target n parts plan counters room small ok h ∙ ap (λ a. or_else a room_answer) (walk_none formats schema x first n target parts ok h bytes fit)
 
-  module _ (accepted : answer.ground ≡ 0) (room_bytes : AllBelow 256 room) (base : ℕ) (body : List ℕ) (bodied : Bodied body (lent_for x (planned formats schema x first n target n) parts first n) answer.room base) where
+  module _ (accepted : answer.refusal ≡ 0) (room_bytes : AllBelow 256 room) (base : ℕ) (body : List ℕ) (bodied : Bodied body (lent_for x (planned formats schema x first n target n) parts first n) answer.room base) where
     abbrev result : Tables
     result = finished_tables (lent_for x (planned formats schema x first n target n) parts first n) x.buffers answer.counters answer.room base body
 

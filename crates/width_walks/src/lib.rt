@@ -1,4 +1,5 @@
 // The walk of the converter between widths: its definitions and laws, and where the nodes of its result come from.
+#![tactic(auto)]
 pub mod target_rules;
 pub mod width_writes;
 

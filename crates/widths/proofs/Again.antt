@@ -16,7 +16,7 @@ use Rattle.width_walks.proofs.Answer.{filled}
 use Rattle.widths.proofs.Theorems.{turned, keep, differs, ends, walk_done}
 
 module _ (formats schema : List ℕ) (x : Tables) (first n target : ℕ) (parts : List ℕ) (ok : column_ground formats schema x first n ≡ 0) (h : is_target formats schema first n target n ≡ true) (bytes : AllBelow 256 x.body)
-    (plan counters room : List ℕ) (taken : (convert formats schema x first n target n parts plan counters room).ground ≡ 0) (room_bytes : AllBelow 256 room) (base : ℕ) (body : List ℕ)
+    (plan counters room : List ℕ) (taken : (convert formats schema x first n target n parts plan counters room).refusal ≡ 0) (room_bytes : AllBelow 256 room) (base : ℕ) (body : List ℕ)
     (bodied : Bodied body (lent_for x (planned formats schema x first n target n) parts first n) (convert formats schema x first n target n parts plan counters room).room base) (short : length body ≤ ceiling) where
   -- LENT AGAIN with the same schema, in tables that hold the finished ones at the target's nodes, IT IS ACCEPTED: none of 9, 10 and 12 stands
   pub lent_again : (z : Tables)

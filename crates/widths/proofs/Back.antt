@@ -65,12 +65,12 @@ module _ (formats schema : List ℕ) (x : Tables) (first n target : ℕ) (parts 
     answer = convert formats schema x first n target n parts plan counters room
 
     -- WIDENING IS ACCEPTED WITH ROOM ENOUGH
-    pub widened : small_body room ≡ true → answer.ground ≡ room_for formats schema x first n target parts plan counters room
+    pub widened : small_body room ≡ true → answer.refusal ≡ room_for formats schema x first n target parts plan counters room
     widened small =
         room_last formats schema x first n target parts plan counters room ok h bytes small (node_fits_lem from to differs (widen from to differs wider admitted) here (source_here formats schema x first n ok) keys 0 here.len (omega arith))
 
     -- .. and finished in a body that holds the column's body, which names its view buffers, and the room
-    module _ (taken : answer.ground ≡ 0) (room_bytes : AllBelow 256 room) (base : ℕ) (body : List ℕ) (bodied : Bodied body (lent_for x made parts first n) answer.room base) (short : length body ≤ ceiling)
+    module _ (taken : answer.refusal ≡ 0) (room_bytes : AllBelow 256 room) (base : ℕ) (body : List ℕ) (bodied : Bodied body (lent_for x made parts first n) answer.room base) (short : length body ≤ ceiling)
         (body_bytes : AllBelow 256 body) where
       abbrev pub wide : Tables
       wide = finished_tables (lent_for x made parts first n) x.buffers answer.counters answer.room base body
@@ -105,11 +105,11 @@ module _ (formats schema : List ℕ) (x : Tables) (first n target : ℕ) (parts 
           second = convert formats schema z target n first n parts2 plan2 counts2 room2
 
           -- NARROWING BACK IS ACCEPTED WITH ROOM ENOUGH
-          pub narrowed : small_body room2 ≡ true → second.ground ≡ room_for formats schema z target n first parts2 plan2 counts2 room2
+          pub narrowed : small_body room2 ≡ true → second.refusal ≡ room_for formats schema z target n first parts2 plan2 counts2 room2
           narrowed small = room_last formats schema z target n first parts2 plan2 counts2 room2 lent_good lent_target lent_bytes small fits
 
           -- AND THE ROWS READ THE SAME
-          pub back_rows : (taken2 : second.ground ≡ 0) → AllBelow 256 room2 → (base2 : ℕ) (body2 : List ℕ) → Bodied body2 (lent_for z (planned formats schema z target n first n) parts2 target n) second.room base2
+          pub back_rows : (taken2 : second.refusal ≡ 0) → AllBelow 256 room2 → (base2 : ℕ) (body2 : List ℕ) → Bodied body2 (lent_for z (planned formats schema z target n first n) parts2 target n) second.room base2
               → read_all from (column_of (tree_of formats schema first n) (finished_tables (lent_for z (planned formats schema z target n first n) parts2 target n) z.buffers second.counters second.room base2 body2) from 0) ≡ read_all from here
           back_rows taken2 b base2 body2 bodied2 =
               (convert_reads formats schema z target n first parts2 plan2 counts2 room2 lent_good lent_target lent_bytes taken2 b base2 body2 bodied2).0

@@ -61,7 +61,7 @@ module _ (formats schema : List ℕ) (x : Tables) (first n target : ℕ) (parts 
   admitted = formed formats schema first n (typed_here formats schema x first n ok) (low_here formats schema x first n ok)
 
   -- "LAID OUT AS BY ONE COPY OF THE COLUMN'S ROWS, save that ..", whatever the widths: so is the column that the finished tables describe (`convert-result`)
-  pub laid_out_lem : AllBelow 256 room → (convert formats schema x first n target n parts plan counters room).ground ≡ 0
+  pub laid_out_lem : AllBelow 256 room → (convert formats schema x first n target n parts plan counters room).refusal ≡ 0
       → LaidAs from to (widths formats schema x first n target parts ok h bytes) here 0 here.len (turned formats schema x first n target parts plan counters room ok h bytes)
   laid_out_lem room_bytes accepted =
       laid_as from to (widths formats schema x first n target parts ok h bytes) here admitted (source_here formats schema x first n ok) (views_bytes (tree_of formats schema first n) (tables_from x first) bytes from 0)

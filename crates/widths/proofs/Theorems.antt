@@ -58,7 +58,7 @@ room_other made tally parts plan counters room g k e = go (join_lengths plan cou
     go false b (inr p) q = omega arith
 
 -- A REFUSED CALL CHANGES NOTHING
-pub refused_keeps : (formats schema : List ℕ) (x : Tables) (first n target tn : ℕ) (parts plan counters room : List ℕ) → ((convert formats schema x first n target tn parts plan counters room).ground ≡ 0 → ⊥)
+pub refused_keeps : (formats schema : List ℕ) (x : Tables) (first n target tn : ℕ) (parts plan counters room : List ℕ) → ((convert formats schema x first n target tn parts plan counters room).refusal ≡ 0 → ⊥)
     → ((convert formats schema x first n target tn parts plan counters room).plan ≡ plan) × ((convert formats schema x first n target tn parts plan counters room).counters ≡ counters) × ((convert formats schema x first n target tn parts plan counters room).room ≡ room)
 refused_keeps formats schema x first n target tn parts plan counters room =
     anew_keeps formats schema x first n (target_ground formats schema x first n target tn) (planned formats schema x first n target tn) (walked formats schema x first n target tn) parts plan counters room
@@ -94,7 +94,7 @@ module _ (formats schema : List ℕ) (x : Tables) (first n target : ℕ) (parts 
   small_plan = few formats schema target n keep true 0 differs.of_type differs.low
 
   -- 6, 7 OR 8 IS ANSWERED ONLY WHERE THE CONVERTER STOPS WITH IT
-  pub number_only : small_body room ≡ true → (g : ℕ) → Ground g ⊎ (g ≡ 10) → answer.ground ≡ g → converted from to (widths formats schema x first n target parts ok h bytes) here ≡ stop g
+  pub number_only : small_body room ≡ true → (g : ℕ) → Ground g ⊎ (g ≡ 10) → answer.refusal ≡ g → converted from to (widths formats schema x first n target parts ok h bytes) here ≡ stop g
   number_only small g k e = go (converted from to (widths formats schema x first n target parts ok h bytes) here) refl
     where
       go : (c : Try (Column to)) → converted from to (widths formats schema x first n target parts ok h bytes) here ≡ c → converted from to (widths formats schema x first n target parts ok h bytes) here ≡ stop g
@@ -112,7 +112,7 @@ module _ (formats schema : List ℕ) (x : Tables) (first n target : ℕ) (parts 
   pub validity_part : (i : ℕ) → i < n → has_part made i 0 ≡ (keep i && ltb (code_of made i) 21)
   validity_part i l = anew_parts formats schema target n keep true 0 small_plan i l ∙ ap (λ b. b && keep i && ltb (code_of made i) 21) (in_parts i l)
 
-  module _ (room_bytes : AllBelow 256 room) (accepted : answer.ground ≡ 0) where
+  module _ (room_bytes : AllBelow 256 room) (accepted : answer.refusal ≡ 0) where
     pub ends : (i : ℕ) → suc i < n → code_of made i ≡ 23 → keep (suc i) ≡ false
     ends = no_ends_lem formats schema x first n target parts (typed_here formats schema x first n ok) (low_here formats schema x first n ok) h
 
@@ -141,7 +141,7 @@ module _ (formats schema : List ℕ) (x : Tables) (first n target : ℕ) (parts 
 
 -- 10 OF THE TARGET IS ANSWERED ONLY WHERE IT DIFFERS IN MORE THAN WIDTHS
 pub target_only : (formats schema : List ℕ) (x : Tables) (first n target : ℕ) (parts plan counters room : List ℕ) → column_ground formats schema x first n ≡ 0 → AllBelow 256 x.body → small_body room ≡ true
-    → (convert formats schema x first n target n parts plan counters room).ground ≡ 10 → is_target formats schema first n target n ≡ false
+    → (convert formats schema x first n target n parts plan counters room).refusal ≡ 10 → is_target formats schema first n target n ≡ false
 target_only formats schema x first n target parts plan counters room ok bytes small e = go (is_target formats schema first n target n) refl
   where
     never : Ground 10 → ⊥

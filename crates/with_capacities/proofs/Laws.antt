@@ -82,7 +82,7 @@ module _ (formats schema sources : List ℕ) (x : Tables) (keep gaps : Bool) (pa
 
   pub settled_no : (g ≡ 0 → ⊥) → Answers (settled formats schema sources x keep gaps parts plan counters room o) g plan counters room1
   unfolding settled
-  settled_no h = rw (ne_eqb o.ans 0 (λ z. h (answers ∙ z))) (record { ground = answers; plan = refl; counters = refl; room = same_room })
+  settled_no h = rw (ne_eqb o.ans 0 (λ z. h (answers ∙ z))) (record { refusal = answers; plan = refl; counters = refl; room = same_room })
 
   module _ (h : g ≡ 0) {t : Bool} (e : t ≡ parts_hold draft c1 parts) where
     asked_of : t ≡ parts_hold (planned formats schema x sources keep gaps) o.counters parts
@@ -90,7 +90,7 @@ module _ (formats schema sources : List ℕ) (x : Tables) (keep gaps : Bool) (pa
 
     pub settled_over : not t ≡ true → Answers (settled formats schema sources x keep gaps parts plan counters room o) 13 plan counters room1
     unfolding settled
-    settled_over f = rw (eq-eqb o.ans 0 (sym answers ∙ h), no asked_of f) (record { ground = refl; plan = refl; counters = refl; room = same_room })
+    settled_over f = rw (eq-eqb o.ans 0 (sym answers ∙ h), no asked_of f) (record { refusal = refl; plan = refl; counters = refl; room = same_room })
 
     pub settled_made : {r : ℕ} {c2 room2 c3 words : List ℕ} → not t ≡ false → Did draft parts true o room1 r c2 room2 → c3 ≡ c2 → words ≡ draft
         → Answers (settled formats schema sources x keep gaps parts plan counters room o) r words c3 room2
@@ -99,7 +99,7 @@ module _ (formats schema sources : List ℕ) (x : Tables) (keep gaps : Bool) (pa
         let ans : o.ans ≡ 0 = sym answers ∙ h in
         rw (eq-eqb o.ans 0 ans, yes asked_of f)
         (record {
-          ground = m.answer ∙ ans;
+          refusal = m.answer ∙ ans;
           plan = w ∙ q;
           counters = s ∙ m.counters;
           room = m.bytes ∙ ap (apply draft parts o.log) same_room ∙ ap (λ z. apply z parts o.log room) q;
@@ -110,14 +110,14 @@ module _ (formats schema sources : List ℕ) (x : Tables) (keep gaps : Bool) (pa
 module _ (formats schema sources : List ℕ) (x : Tables) (keep gaps : Bool) (parts plan counters room : List ℕ) where
   pub open_large : ceiling < length room → Answers (opening formats schema sources x keep gaps parts plan counters room) 9 plan counters room
   unfolding opening
-  open_large h = rw (lt-leb (length room) ceiling h) (record { ground = refl; plan = refl; counters = refl; room = refl })
+  open_large h = rw (lt-leb (length room) ceiling h) (record { refusal = refl; plan = refl; counters = refl; room = refl })
 
   module _ (h : length room ≤ ceiling) {g : ℕ} (e : g ≡ sources_ground formats schema x sources) where
     pub open_sources : (g ≡ 0 → ⊥) → Answers (opening formats schema sources x keep gaps parts plan counters room) g plan counters room
     unfolding opening
     open_sources f =
         rw (le-leb (length room) ceiling h, ne_eqb (sources_ground formats schema x sources) 0 (λ z. f (e ∙ z)))
-        (record { ground = e; plan = refl; counters = refl; room = refl })
+        (record { refusal = e; plan = refl; counters = refl; room = refl })
 
     module _ (f : g ≡ 0) {draft : List ℕ} (q : draft ≡ planned formats schema x sources keep gaps) {t : Bool}
         (k : t ≡ (eqb (length plan) 872 && eqb (length counters) 96 && parts_placed parts (part_total draft) (length room))) where
@@ -131,7 +131,7 @@ module _ (formats schema sources : List ℕ) (x : Tables) (keep gaps : Bool) (pa
       pub open_room : not t ≡ true → Answers (opening formats schema sources x keep gaps parts plan counters room) 14 plan counters room
       unfolding opening
       open_room l =
-          rw (le-leb (length room) ceiling h, good, no placed l) (record { ground = refl; plan = refl; counters = refl; room = refl })
+          rw (le-leb (length room) ceiling h, good, no placed l) (record { refusal = refl; plan = refl; counters = refl; room = refl })
 
       pub open_made : {r : ℕ} {words c bytes : List ℕ} → not t ≡ false
           → Answers (settled formats schema sources x keep gaps parts plan counters room (open_walk_of (lent draft parts sources x.lengths x.places x.body) (replicate 96 0))) r words c bytes
@@ -152,13 +152,13 @@ module _ (formats schema sources : List ℕ) (x : Tables) (keep gaps : Bool) (pa
 module _ (formats schema sources : List ℕ) (x : Tables) (keep gaps : Bool) (plan : List ℕ) {g : ℕ} (e : g ≡ sources_ground formats schema x sources) where
   pub ask_sources : (g ≡ 0 → ⊥) → Plans (asked formats schema sources x keep gaps plan) g plan
   unfolding asked
-  ask_sources f = rw (ne_eqb (sources_ground formats schema x sources) 0 (λ z. f (e ∙ z))) (record { ground = e; plan = refl })
+  ask_sources f = rw (ne_eqb (sources_ground formats schema x sources) 0 (λ z. f (e ∙ z))) (record { refusal = e; plan = refl })
 
   module _ (f : g ≡ 0) where
     pub ask_words : (length plan ≡ 872 → ⊥) → Plans (asked formats schema sources x keep gaps plan) 14 plan
     unfolding asked
-    ask_words h = rw (eq-eqb (sources_ground formats schema x sources) 0 (sym e ∙ f), ne_eqb (length plan) 872 h) (record { ground = refl; plan = refl })
+    ask_words h = rw (eq-eqb (sources_ground formats schema x sources) 0 (sym e ∙ f), ne_eqb (length plan) 872 h) (record { refusal = refl; plan = refl })
 
     pub ask_made : {draft words : List ℕ} → length plan ≡ 872 → draft ≡ planned formats schema x sources keep gaps → words ≡ draft → Plans (asked formats schema sources x keep gaps plan) 0 words
     unfolding asked
-    ask_made h q w = rw (eq-eqb (sources_ground formats schema x sources) 0 (sym e ∙ f), eq-eqb (length plan) 872 h) (record { ground = refl; plan = w ∙ q })
+    ask_made h q w = rw (eq-eqb (sources_ground formats schema x sources) 0 (sym e ∙ f), eq-eqb (length plan) 872 h) (record { refusal = refl; plan = w ∙ q })

@@ -11,7 +11,7 @@ use Rattle.refinement.specs.opening.Ask.{Asked}
 
 -- the ground that is answered, and the plan, the counters and the room as they are left
 pub record Answers (a : Opening) (r : ℕ) (words tally bytes : List ℕ) : Type 0 where
-  pub ground : r ≡ a.ground
+  pub refusal : r ≡ a.refusal
   pub plan : words ≡ a.plan
   pub counters : tally ≡ a.counters
   pub room : bytes ≡ a.room
@@ -38,5 +38,5 @@ lent_tables lengths places buffers body = tables_of (was lengths) (was places) (
 
 -- the ground that is answered, and the plan as it is left
 pub record Plans (a : Asked) (r : ℕ) (words : List ℕ) : Type 0 where
-  pub ground : r ≡ a.ground
+  pub refusal : r ≡ a.refusal
   pub plan : words ≡ a.plan

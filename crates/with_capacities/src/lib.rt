@@ -1,5 +1,6 @@
 // The opening of a join on lent memory: it is tried first, on counters of its own, and made where no ground is found. A refused one changes nothing.
 // Follows `try_with_capacities` of arrow-data 60.1.0 src/transform/mod.rs, Apache-2.0; see NOTICE.
+#![tactic(auto)]
 pub mod open_walk;
 
 ghost use Rattle.std.specs.Prelude.{◌≡◌, ◌&&◌, ◌≤◌, length, replicate, eqb};

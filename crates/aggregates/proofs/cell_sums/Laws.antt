@@ -7,7 +7,7 @@ use Rattle.aggregates.proofs.tally.Sums.{stretched, none_yet, hi_low}
 use Rattle.aggregates.specs.cells.Cells.{cell_at}
 use Rattle.aggregates.specs.declared.cell_sums.Numbers.{Numbers}
 use Rattle.aggregates.specs.declared.cell_sums.Stretch.{Stretch}
-use Rattle.run_ends_lem.specs.declared.PhysicalRun.{PhysicalRun}
+use Rattle.run_ends.specs.declared.PhysicalRun.{PhysicalRun}
 use Rattle.slot_reader.specs.declared.run.RowRun.TheVariants as answer
 use Rattle.aggregates.specs.cell_sums.Steps.{until_by, until_of}
 use Rattle.aggregates.specs.cell_sums.Numbers.{asked, cell_in, mask_cell, both_cells, Bounded, Flat}

@@ -14,10 +14,10 @@ use Rattle.columnar.proofs.Items.{entry_end}
 use Rattle.array_data.specs.Tables.{Tables, part, length_of, offset_of, place, valid_of, first_buffer, array_with}
 use Rattle.array_data.specs.Typed.{Tree, column_of, body_of}
 use Rattle.array_data.proofs.entries.Laws.{number_cut}
-use Rattle.run_ends_lem.specs.Lookup.{Climbs, Rising, bisect, found_at}
-use Rattle.run_ends_lem.specs.declared.PhysicalRun.{PhysicalRun}
-use Rattle.run_ends_lem.specs.declared.Found.TheVariants as found
-use Rattle.run_ends_lem.proofs.Laws.{bisect_first}
+use Rattle.run_ends.specs.Lookup.{Climbs, Rising, bisect, found_at}
+use Rattle.run_ends.specs.declared.PhysicalRun.{PhysicalRun}
+use Rattle.run_ends.specs.declared.Found.TheVariants as found
+use Rattle.run_ends.proofs.Laws.{bisect_first}
 use Rattle.slot_reader.specs.declared.run.RowRun.{RowRun}
 use Rattle.slot_reader.specs.declared.run.RowRun.TheVariants as answer
 use Rattle.slot_reader.specs.run.Rows.{is_width, row_run}

@@ -1,7 +1,7 @@
 -- The rows of a whole-number column as cells. Assumes nothing.
 use Rattle.std.specs.Prelude.{◌≡◌, ℕ, ◌+◌, ◌-◌, ◌^◌, ◌<◌, ◌≤◌, Bool, true, false, cond, List, length, ◌==◌, ◌≢◌}
 use Rattle.array_data.specs.Tables.{part}
-use Rattle.run_ends_lem.specs.declared.PhysicalRun.{PhysicalRun}
+use Rattle.run_ends.specs.declared.PhysicalRun.{PhysicalRun}
 use Rattle.slot_reader.specs.declared.run.RowRun.{RowRun}
 use Rattle.slot_reader.specs.declared.run.RowRun.TheVariants as answer
 use Rattle.slot_reader.specs.run.Rows.{row_run}

@@ -48,32 +48,32 @@ module _ (formats schema : List ℕ) (x : Tables) (first n own : ℕ) (made : Li
     -- a ground before room is asked
     pub asks_refused : {g : ℕ} → g ≡ before → (g ≡ 0 → ⊥) → Asks (asking formats schema x first n own made walk plan counters) g plan counters
     unfolding asking
-    asks_refused e d = rw (ne_eqb before 0 (λ z. d (e ∙ z))) (record { ground = e; plan = refl; counters = refl })
+    asks_refused e d = rw (ne_eqb before 0 (λ z. d (e ∙ z))) (record { refusal = e; plan = refl; counters = refl })
 
     -- plan and counters are not a join's
     pub asks_lengths : before ≡ 0 → join_lengths (length plan) (length counters) ≡ false → Asks (asking formats schema x first n own made walk plan counters) 14 plan counters
     unfolding asking
-    asks_lengths e l = rw (e, l) (record { ground = refl; plan = refl; counters = refl })
+    asks_lengths e l = rw (e, l) (record { refusal = refl; plan = refl; counters = refl })
 
     pub asks_done : before ≡ 0 → join_lengths (length plan) (length counters) ≡ true → {r : ℕ} {p c : List ℕ} → r ≡ 0 → p ≡ made → c ≡ walk.counters
         → Asks (asking formats schema x first n own made walk plan counters) r p c
     unfolding asking
-    asks_done e l r p c = rw (e, l) (record { ground = r; plan = p; counters = c })
+    asks_done e l r p c = rw (e, l) (record { refusal = r; plan = p; counters = c })
 
   -- ---- the call
 
   module _ (parts plan counters room : List ℕ) where
-    abbrev ground : ℕ
-    ground = ground_of formats schema x first n own made walk parts plan counters room
+    abbrev refusal : ℕ
+    refusal = ground_of formats schema x first n own made walk parts plan counters room
 
     -- a room above the ceiling
     pub answers_large : small_body room ≡ false → Answers (anew formats schema x first n own made walk parts plan counters room) 9 plan counters room
     unfolding anew
-    answers_large s = rw s (record { ground = refl; plan = refl; counters = refl; room = refl })
+    answers_large s = rw s (record { refusal = refl; plan = refl; counters = refl; room = refl })
 
-    answers_ground : small_body room ≡ true → {g : ℕ} → g ≡ ground → (g ≡ 0 → ⊥) → Answers (anew formats schema x first n own made walk parts plan counters room) g plan counters room
+    answers_ground : small_body room ≡ true → {g : ℕ} → g ≡ refusal → (g ≡ 0 → ⊥) → Answers (anew formats schema x first n own made walk parts plan counters room) g plan counters room
     unfolding anew
-    answers_ground s e d = rw (s, ne_eqb ground 0 (λ z. d (e ∙ z))) (record { ground = e; plan = refl; counters = refl; room = refl })
+    answers_ground s e d = rw (s, ne_eqb refusal 0 (λ z. d (e ∙ z))) (record { refusal = e; plan = refl; counters = refl; room = refl })
 
     -- a ground before room is asked
     pub answers_refused : small_body room ≡ true → {g : ℕ} → g ≡ before → (g ≡ 0 → ⊥) → Answers (anew formats schema x first n own made walk parts plan counters room) g plan counters room
@@ -88,4 +88,4 @@ module _ (formats schema : List ℕ) (x : Tables) (first n own : ℕ) (made : Li
     pub answers_made : small_body room ≡ true → before ≡ 0 → room_ground made walk.counters parts (length plan) (length counters) (length room) ≡ 0 → {r : ℕ} {p c b : List ℕ} → r ≡ 0 → p ≡ made → c ≡ walk.counters
         → b ≡ apply made parts walk.log room → Answers (anew formats schema x first n own made walk parts plan counters room) r p c b
     unfolding anew
-    answers_made s b g r p c q = rw (s, eq-eqb ground 0 (or_zero before _ b ∙ g)) (record { ground = r; plan = p; counters = c; room = q })
+    answers_made s b g r p c q = rw (s, eq-eqb refusal 0 (or_zero before _ b ∙ g)) (record { refusal = r; plan = p; counters = c; room = q })

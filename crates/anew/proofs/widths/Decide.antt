@@ -23,7 +23,7 @@ pub tried_then : (l r : List Demand) → tried (l ++ r) ≡ then (tried l) (λ u
 tried_then [] r = refl
 tried_then (x ∷ l) r = go (ltb x.number x.most) (tried_then l r)
   where
-    go : (b : Bool) → tried (l ++ r) ≡ then (tried l) (λ u. tried r) → guard b x.ground (tried (l ++ r)) ≡ then (guard b x.ground (tried l)) (λ u. tried r)
+    go : (b : Bool) → tried (l ++ r) ≡ then (tried l) (λ u. tried r) → guard b x.refusal (tried (l ++ r)) ≡ then (guard b x.refusal (tried l)) (λ u. tried r)
     go true e = e
     go false e = refl
 

@@ -72,7 +72,7 @@ pub record Misfit (l : List Demand) (g : ℕ) : Type 0 where
   pub split : l ≡ before ++ (bad ∷ behind)
   pub fit : AllFit before
   pub over : bad.most ≤ bad.number
-  pub ground_is : bad.ground ≡ g
+  pub ground_is : bad.refusal ≡ g
 
 not-stop : {g : ℕ} → ◌≡◌ {A = Try (Unit {0})} (done tt) (stop g) → ⊥
 not-stop e = let z : ◌≡◌ {A = ℕ} 0 1 = cc in omega arith
@@ -85,7 +85,7 @@ pub tried_done : (l : List Demand) → tried l ≡ done tt → AllFit l
 tried_done [] e = tt
 tried_done (x ∷ l) e = go (ltb x.number x.most) refl e (tried_done l)
   where
-    go : (b : Bool) → ltb x.number x.most ≡ b → guard b x.ground (tried l) ≡ done tt → (tried l ≡ done tt → AllFit l) → (x.number < x.most) × AllFit l
+    go : (b : Bool) → ltb x.number x.most ≡ b → guard b x.refusal (tried l) ≡ done tt → (tried l ≡ done tt → AllFit l) → (x.number < x.most) × AllFit l
     go true p e f = (ltb-true x.number x.most p, f e)
     go false p e f = absurd (not-stop (sym e))
 
@@ -98,7 +98,7 @@ pub tried_stop : (l : List Demand) (g : ℕ) → tried l ≡ stop g → Misfit l
 tried_stop [] g e = absurd (not-stop e)
 tried_stop (x ∷ l) g e = go (ltb x.number x.most) refl e (tried_stop l g)
   where
-    go : (b : Bool) → ltb x.number x.most ≡ b → guard b x.ground (tried l) ≡ stop g → (tried l ≡ stop g → Misfit l g) → Misfit (x ∷ l) g
+    go : (b : Bool) → ltb x.number x.most ≡ b → guard b x.refusal (tried l) ≡ stop g → (tried l ≡ stop g → Misfit l g) → Misfit (x ∷ l) g
     go true p e f =
         let m = f e in
         record {

@@ -22,7 +22,7 @@ Ground g = (g ≡ 6) ⊎ ((g ≡ 7) ⊎ (g ≡ 8))
 
 abbrev Grounded : List Demand → Type 0
 Grounded [] = Unit {0}
-Grounded (x ∷ l) = Ground x.ground × Grounded l
+Grounded (x ∷ l) = Ground x.refusal × Grounded l
 
 needed : (g most : ℕ) (vs : List ℕ) → Ground g → Grounded (needs g most vs)
 needed g most [] h = tt
@@ -40,7 +40,7 @@ chosen : (b : Bool) (f : T b → List Demand) → ((m : T b) → Grounded (f m))
 chosen true f h = h tt
 chosen false f h = tt
 
-of_one : (l r : List Demand) (x : Demand) → Grounded (l ++ (x ∷ r)) → Ground x.ground
+of_one : (l r : List Demand) (x : Demand) → Grounded (l ++ (x ∷ r)) → Ground x.refusal
 of_one [] r x h = h.0
 of_one (y ∷ l) r x h = of_one l r x h.1
 

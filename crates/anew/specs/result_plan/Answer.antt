@@ -4,6 +4,6 @@ use Rattle.anew.specs.Anew.{Asking}
 
 -- the ground that is answered, and the plan and the counters as they are left
 pub record Asks (a : Asking) (r : ℕ) (words tally : List ℕ) : Type 0 where
-  pub ground : r ≡ a.ground
+  pub refusal : r ≡ a.refusal
   pub plan : words ≡ a.plan
   pub counters : tally ≡ a.counters

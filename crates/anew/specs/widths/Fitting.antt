@@ -13,13 +13,13 @@ use Rattle.anew.specs.widths.Converted.{span_of, offsets_of, first_of, many_of, 
 
 -- a number of the result, what it must be below, and the ground where it is not
 pub record Demand : Type 0 where
-  pub ground : ℕ
+  pub refusal : ℕ
   pub number : ℕ
   pub most : ℕ
 
 abbrev pub needs : ℕ → ℕ → List ℕ → List Demand
 needs g most [] = []
-needs g most (v ∷ vs) = record { ground = g; number = v; most = most } ∷ needs g most vs
+needs g most (v ∷ vs) = record { refusal = g; number = v; most = most } ∷ needs g most vs
 
 abbrev pub gather : List ℕ → (ℕ → List Demand) → List Demand
 gather [] f = []
@@ -50,7 +50,7 @@ numbers_in (s_dictionary k k' p p' i i' d) b s n = needs 8 (limit k') ((b.values
 -- all fit, or the ground of the first that does not
 abbrev pub tried : List Demand → Try (Unit {0})
 tried [] = done tt
-tried (x ∷ l) = guard (ltb x.number x.most) x.ground (tried l)
+tried (x ∷ l) = guard (ltb x.number x.most) x.refusal (tried l)
 
 abbrev pub AllFit : List Demand → Type 0
 AllFit [] = Unit {0}

@@ -11,8 +11,8 @@ use Rattle.array_data.proofs.lent_tables.Laws.{no, yes}
 use Rattle.columns.specs.Grounds.{all_same}
 use Rattle.array_data.specs.Sources.{source_count, first_of, nodes_of}
 use Rattle.columns.proofs.Laws.{at_source, of_source, first_is}
-use Rattle.columns.proofs.all_same_lem.Statement.{statement}
-use Rattle.columns.proofs.all_same_lem.Tie as tie
+use Rattle.columns.proofs.all_same.Statement.{statement}
+use Rattle.columns.proofs.all_same.Tie as tie
 
 abbrev invariant-loop : tie.invariant-loop
 invariant-loop sources formats schema first nodes m s₀ s = (s ≤ source_count sources) × (first ≡ first_of sources 0) × (nodes ≡ nodes_of sources 0) × ((j : ℕ) → j < s → of_source (same_type formats schema (first_of sources 0) (nodes_of sources 0)) sources j ≡ true)

@@ -11,8 +11,8 @@ use Rattle.array_data.proofs.lent_tables.Laws.{no, yes}
 use Rattle.columns.specs.Grounds.{all_typed}
 use Rattle.array_data.specs.Sources.{source_count}
 use Rattle.columns.proofs.Laws.{at_source, of_source}
-use Rattle.columns.proofs.all_typed_lem.Statement.{statement}
-use Rattle.columns.proofs.all_typed_lem.Tie as tie
+use Rattle.columns.proofs.all_typed.Statement.{statement}
+use Rattle.columns.proofs.all_typed.Tie as tie
 
 abbrev invariant-loop : tie.invariant-loop
 invariant-loop sources formats schema m s₀ s = (s ≤ source_count sources) × ((j : ℕ) → j < s → of_source (typed formats schema) sources j ≡ true)

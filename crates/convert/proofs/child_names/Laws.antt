@@ -167,14 +167,14 @@ fitting n lengths nulls places h =
 module _ (formats schema : List ℕ) (x : Tables) (first n : ℕ) (lengths nulls places : List ℕ) where
   pub names_refused : {g : ℕ} → g ≡ column_ground formats schema x first n → (g ≡ 0 → ⊥) → Names (naming formats schema x first n lengths nulls places) g lengths nulls places
   unfolding naming
-  names_refused e h = rw (ne_eqb (column_ground formats schema x first n) 0 (λ z. h (e ∙ z))) (record { ground = e; lengths_are = refl; nulls_are = refl; places_are = refl })
+  names_refused e h = rw (ne_eqb (column_ground formats schema x first n) 0 (λ z. h (e ∙ z))) (record { refusal = e; lengths_are = refl; nulls_are = refl; places_are = refl })
 
   module _ {g : ℕ} (eg : g ≡ column_ground formats schema x first n) (hg : g ≡ 0) where
     pub names_short : tables_fit n (length lengths) (length nulls) (length places) ≡ false → Names (naming formats schema x first n lengths nulls places) 14 lengths nulls places
     unfolding naming
-    names_short h = rw (eq-eqb (column_ground formats schema x first n) 0 (sym eg ∙ hg), h) (record { ground = refl; lengths_are = refl; nulls_are = refl; places_are = refl })
+    names_short h = rw (eq-eqb (column_ground formats schema x first n) 0 (sym eg ∙ hg), h) (record { refusal = refl; lengths_are = refl; nulls_are = refl; places_are = refl })
 
     pub names_made : tables_fit n (length lengths) (length nulls) (length places) ≡ true → {a b c : List ℕ} → a ≡ view_lengths x first n lengths → b ≡ view_nulls x first n nulls → c ≡ view_places x first n places
         → Names (naming formats schema x first n lengths nulls places) 0 a b c
     unfolding naming
-    names_made h p q r = rw (eq-eqb (column_ground formats schema x first n) 0 (sym eg ∙ hg), h) (record { ground = refl; lengths_are = p; nulls_are = q; places_are = r })
+    names_made h p q r = rw (eq-eqb (column_ground formats schema x first n) 0 (sym eg ∙ hg), h) (record { refusal = refl; lengths_are = p; nulls_are = q; places_are = r })

@@ -55,40 +55,40 @@ module _ (formats schema : List ℕ) (x : Tables) (first n : ℕ) (lengths nulls
   answer = naming formats schema x first n lengths nulls places
 
   abbrev made : Naming
-  made = record { ground = 0; lengths = view_lengths x first n lengths; nulls = view_nulls x first n nulls; places = view_places x first n places }
+  made = record { refusal = 0; lengths = view_lengths x first n lengths; nulls = view_nulls x first n nulls; places = view_places x first n places }
 
-  accepted : answer.ground ≡ 0 → answer ≡ made
+  accepted : answer.refusal ≡ 0 → answer ≡ made
   unfolding naming
   accepted = go (eqb (column_ground formats schema x first n) 0) refl (tables_fit n (length lengths) (length nulls) (length places))
     where
       by : Bool → Bool → Naming
       by a b = cond a (cond b made (refused formats schema x first n lengths nulls places 14)) (refused formats schema x first n lengths nulls places (column_ground formats schema x first n))
 
-      go : (a : Bool) → eqb (column_ground formats schema x first n) 0 ≡ a → (b : Bool) → (by a b).ground ≡ 0 → by a b ≡ made
+      go : (a : Bool) → eqb (column_ground formats schema x first n) 0 ≡ a → (b : Bool) → (by a b).refusal ≡ 0 → by a b ≡ made
       go true p true h = refl
       go true p false h = absurd (omega (arith, h))
       go false p b h = absurd (eqb-false _ _ p h)
 
   -- ACCEPTED, where the column is and the tables are those of n nodes
-  pub naming_accepts : column_ground formats schema x first n ≡ 0 → tables_fit n (length lengths) (length nulls) (length places) ≡ true → answer.ground ≡ 0
+  pub naming_accepts : column_ground formats schema x first n ≡ 0 → tables_fit n (length lengths) (length nulls) (length places) ≡ true → answer.refusal ≡ 0
   unfolding naming
   naming_accepts g t = rw (g, t)
 
   -- A REFUSED CALL leaves the tables
-  pub naming_keeps : (answer.ground ≡ 0 → ⊥) → (answer.lengths ≡ lengths) × (answer.nulls ≡ nulls) × (answer.places ≡ places)
+  pub naming_keeps : (answer.refusal ≡ 0 → ⊥) → (answer.lengths ≡ lengths) × (answer.nulls ≡ nulls) × (answer.places ≡ places)
   unfolding naming
   naming_keeps = go (eqb (column_ground formats schema x first n) 0) (tables_fit n (length lengths) (length nulls) (length places))
     where
       by : Bool → Bool → Naming
       by a b = cond a (cond b made (refused formats schema x first n lengths nulls places 14)) (refused formats schema x first n lengths nulls places (column_ground formats schema x first n))
 
-      go : (a b : Bool) → ((by a b).ground ≡ 0 → ⊥) → ((by a b).lengths ≡ lengths) × ((by a b).nulls ≡ nulls) × ((by a b).places ≡ places)
+      go : (a b : Bool) → ((by a b).refusal ≡ 0 → ⊥) → ((by a b).lengths ≡ lengths) × ((by a b).nulls ≡ nulls) × ((by a b).places ≡ places)
       go true true h = absurd (h refl)
       go true false h = (refl, refl, refl)
       go false b h = (refl, refl, refl)
 
   -- AN ACCEPTED CALL behind a finished root leaves the tables and null counts of the list-view
-  pub named_tables : (root : Tables) (root_nulls : List ℕ) → answer.ground ≡ 0 → take 2 lengths ≡ root.lengths → take 1 nulls ≡ root_nulls → take 9 places ≡ root.places
+  pub named_tables : (root : Tables) (root_nulls : List ℕ) → answer.refusal ≡ 0 → take 2 lengths ≡ root.lengths → take 1 nulls ≡ root_nulls → take 9 places ≡ root.places
       → (answer.lengths ≡ (view_tables x first n root).lengths) × (answer.nulls ≡ view_nulls x first n root_nulls) × (answer.places ≡ (view_tables x first n root).places)
   named_tables root root_nulls g a b c =
       let e = accepted g in

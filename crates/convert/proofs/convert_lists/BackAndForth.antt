@@ -28,11 +28,11 @@ use Rattle.convert.proofs.convert_lists.ToViewResult as to_view
 
 -- LIST, LIST-VIEW, LIST: z are the tables of the list-view, lent again
 pub list_view_list : (formats schema : List ℕ) (x : Tables) (first m target : ℕ) (good : column_ground formats schema x first (suc m) ≡ 0) (due : ViewDue formats schema first (suc m) target (suc m))
-    (parts plan counters room : List ℕ) (room_bytes : AllBelow 256 room) (passed : (make_view formats schema x first (suc m) target (suc m) parts plan counters room).ground ≡ 0)
+    (parts plan counters room : List ℕ) (room_bytes : AllBelow 256 room) (passed : (make_view formats schema x first (suc m) target (suc m) parts plan counters room).refusal ≡ 0)
     (base : ℕ) (body : List ℕ) (bodied : Bodied body (to_view.lent formats schema x first m target good due parts plan counters room room_bytes passed) (to_view.answer formats schema x first m target good due parts plan counters room room_bytes passed).room base)
     (z : Tables) → tables_from z target ≡ to_view.tables_after formats schema x first m target good due parts plan counters room room_bytes passed base body bodied
     → (back : ℕ) (good' : column_ground formats schema z target (suc m) ≡ 0) (due' : Due formats schema target (suc m) back (suc m)) (parts' plan' counters' room' : List ℕ) (body-bytes' : AllBelow 256 z.body) (room-bytes' : AllBelow 256 room')
-    (passed' : (make_list formats schema z target (suc m) back (suc m) parts' plan' counters' room').ground ≡ 0) (base' : ℕ) (body' : List ℕ)
+    (passed' : (make_list formats schema z target (suc m) back (suc m) parts' plan' counters' room').refusal ≡ 0) (base' : ℕ) (body' : List ℕ)
     (bodied' : Bodied body' (to_list.lent formats schema z target m back good' due' parts' plan' counters' room' body-bytes' room-bytes' passed') (to_list.answer formats schema z target m back good' due' parts' plan' counters' room' body-bytes' room-bytes' passed').room base')
     → let w = to_list.w formats schema z target m back good' due' in let t = to_list.t formats schema z target m back good' due' in
     read_all (t_list w t) (column_of (tree_of formats schema back (suc m)) (to_list.tables_after formats schema z target m back good' due' parts' plan' counters' room' body-bytes' room-bytes' passed' base' body' bodied') (t_list w t) 0)
@@ -56,11 +56,11 @@ list_view_list formats schema x first m target good due parts plan counters room
 
 -- LIST-VIEW, LIST, LIST-VIEW: z are the tables of the list, lent again
 pub view_list_view : (formats schema : List ℕ) (x : Tables) (first m target : ℕ) (good : column_ground formats schema x first (suc m) ≡ 0) (due : Due formats schema first (suc m) target (suc m))
-    (parts plan counters room : List ℕ) (body_bytes : AllBelow 256 x.body) (room_bytes : AllBelow 256 room) (passed : (make_list formats schema x first (suc m) target (suc m) parts plan counters room).ground ≡ 0)
+    (parts plan counters room : List ℕ) (body_bytes : AllBelow 256 x.body) (room_bytes : AllBelow 256 room) (passed : (make_list formats schema x first (suc m) target (suc m) parts plan counters room).refusal ≡ 0)
     (base : ℕ) (body : List ℕ) (bodied : Bodied body (to_list.lent formats schema x first m target good due parts plan counters room body_bytes room_bytes passed) (to_list.answer formats schema x first m target good due parts plan counters room body_bytes room_bytes passed).room base)
     (z : Tables) → tables_from z target ≡ to_list.tables_after formats schema x first m target good due parts plan counters room body_bytes room_bytes passed base body bodied
     → (back : ℕ) (good' : column_ground formats schema z target (suc m) ≡ 0) (due' : ViewDue formats schema target (suc m) back (suc m)) (parts' plan' counters' room' : List ℕ) (room-bytes' : AllBelow 256 room')
-    (passed' : (make_view formats schema z target (suc m) back (suc m) parts' plan' counters' room').ground ≡ 0) (base' : ℕ) (body' : List ℕ)
+    (passed' : (make_view formats schema z target (suc m) back (suc m) parts' plan' counters' room').refusal ≡ 0) (base' : ℕ) (body' : List ℕ)
     (bodied' : Bodied body' (to_view.lent formats schema z target m back good' due' parts' plan' counters' room' room-bytes' passed') (to_view.answer formats schema z target m back good' due' parts' plan' counters' room' room-bytes' passed').room base')
     → let w = to_view.w formats schema z target m back good' due' in let t = to_view.t formats schema z target m back good' due' in
     read_all (t_list_view w t) (column_of (tree_of formats schema back (suc m)) (to_view.tables_after formats schema z target m back good' due' parts' plan' counters' room' room-bytes' passed' base' body' bodied') (t_list_view w t) 0)

@@ -34,14 +34,14 @@ module _ (formats schema : List ℕ) (x : Tables) (first n target tn : ℕ) (par
 
   -- any call of this form, whatever its own ground, plan and walk
   in_order_lem : (own : ℕ) (made : List ℕ) (walk : Out) → small_body room ≡ true
-      → (anew formats schema x first n own made walk parts plan counters room).ground ≡ or_else of_column (or_else own (or_else walk.ans (room_ground made walk.counters parts (length plan) (length counters) (length room))))
+      → (anew formats schema x first n own made walk parts plan counters room).refusal ≡ or_else of_column (or_else own (or_else walk.ans (room_ground made walk.counters parts (length plan) (length counters) (length room))))
   in_order_lem own made walk = anew_order formats schema x first n own made walk parts plan counters room
 
   -- ---- list-view to list
 
   -- 9, 10 and 12 of the column, 10, 6 or 7 as its rows meet them (`to-list-ground`), 14 and 13
   pub to_list_grounds : small_body room ≡ true
-      → (make_list formats schema x first n target tn parts plan counters room).ground
+      → (make_list formats schema x first n target tn parts plan counters room).refusal
       ≡ or_else of_column
       (or_else (list_own formats schema x first n target tn)
       (or_else (list_filled formats schema x first n target tn).ans (room_ground (list_plan formats schema x first n target tn) (list_filled formats schema x first n target tn).counters parts (length plan) (length counters) (length room))))
@@ -63,7 +63,7 @@ module _ (formats schema : List ℕ) (x : Tables) (first n target tn : ℕ) (par
 
   -- 9, 10 and 12 of the column, 10, 14 and 13; never 6
   pub to_view_grounds : small_body room ≡ true
-      → (make_view formats schema x first n target tn parts plan counters room).ground
+      → (make_view formats schema x first n target tn parts plan counters room).refusal
       ≡ or_else of_column
       (or_else (view_own formats schema x first n target tn) (room_ground (view_plan formats schema x first n target tn) (view_filled formats schema x first n target tn).counters parts (length plan) (length counters) (length room)))
   to_view_grounds small =
@@ -72,12 +72,12 @@ module _ (formats schema : List ℕ) (x : Tables) (first n target tn : ℕ) (par
 
   -- ---- the grounds of the column and of the target
 
-  other : (own : ℕ) (made : List ℕ) (walk : Out) → small_body room ≡ true → of_column ≡ 0 → own ≡ 10 → (anew formats schema x first n own made walk parts plan counters room).ground ≡ 10
+  other : (own : ℕ) (made : List ℕ) (walk : Out) → small_body room ≡ true → of_column ≡ 0 → own ≡ 10 → (anew formats schema x first n own made walk parts plan counters room).refusal ≡ 10
   other own made walk small c o = in_order_lem own made walk small ∙ or_zero of_column _ c ∙ or_first own _ (λ z. omega (arith, o, z)) ∙ o
 
   -- "REFUSES WITH 10 ANY OTHER COLUMN"
-  pub to_list_other : small_body room ≡ true → of_column ≡ 0 → to_list formats schema first n target tn ≡ false → (make_list formats schema x first n target tn parts plan counters room).ground ≡ 10
+  pub to_list_other : small_body room ≡ true → of_column ≡ 0 → to_list formats schema first n target tn ≡ false → (make_list formats schema x first n target tn parts plan counters room).refusal ≡ 10
   to_list_other small c f = other (list_own formats schema x first n target tn) (list_plan formats schema x first n target tn) (list_filled formats schema x first n target tn) small c (rw f)
 
-  pub to_view_other : small_body room ≡ true → of_column ≡ 0 → to_view formats schema first n target tn ≡ false → (make_view formats schema x first n target tn parts plan counters room).ground ≡ 10
+  pub to_view_other : small_body room ≡ true → of_column ≡ 0 → to_view formats schema first n target tn ≡ false → (make_view formats schema x first n target tn parts plan counters room).refusal ≡ 10
   to_view_other small c f = other (view_own formats schema x first n target tn) (view_plan formats schema x first n target tn) (view_filled formats schema x first n target tn) small c (rw f)

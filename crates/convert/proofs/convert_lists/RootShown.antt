@@ -217,7 +217,7 @@ module _ (l : Lent) (counters : List ℕ) (μ : Memory) (n w : ℕ) (keep : Bool
       pub root_finishes : base ≤ ceiling → (lengths nulls places names : List ℕ) → length lengths ≡ 2 → length nulls ≡ 1 → length places ≡ 9 → length names ≡ 0
           → finishing l buffers counters room base lengths nulls places names
           ≡ record {
-            ground = 0;
+            refusal = 0;
             lengths = length_table l buffers counters room base;
             nulls = null_table l buffers counters room base;
             places = place_table l buffers counters room base;

@@ -69,7 +69,7 @@ module _ (formats schema : List ℕ) (x : Tables) (first m target : ℕ) (ok : c
 
   -- ---- an accepted call
 
-  module _ (parts plan counters room : List ℕ) (body_bytes : AllBelow 256 x.body) (room_bytes : AllBelow 256 room) (passed : (make_list formats schema x first n target n parts plan counters room).ground ≡ 0) where
+  module _ (parts plan counters room : List ℕ) (body_bytes : AllBelow 256 x.body) (room_bytes : AllBelow 256 room) (passed : (make_list formats schema x first n target n parts plan counters room).refusal ≡ 0) where
     abbrev pub answer : Opening
     answer = make_list formats schema x first n target n parts plan counters room
 
@@ -109,7 +109,7 @@ module _ (formats schema : List ℕ) (x : Tables) (first m target : ℕ) (ok : c
         → length names ≡ 2 * buffers_before lent x.buffers answer.counters answer.room base (nodes_of made)
         → finishing lent x.buffers answer.counters answer.room base lengths nulls places names
         ≡ record {
-          ground = 0;
+          refusal = 0;
           lengths = length_table lent x.buffers answer.counters answer.room base;
           nulls = null_table lent x.buffers answer.counters answer.room base;
           places = place_table lent x.buffers answer.counters answer.room base;

@@ -52,7 +52,7 @@ module _ (formats schema : List ℕ) (x : Tables) (first m target : ℕ) (ok : c
           let e : (list_filled formats schema x first n target n).ans ≡ g = to_list_ground formats schema x first m target ok due ∙ ap ground_of p in
           subst (Refused wide item_type column) (sym e) (listed_where wide item_type column g p)
 
-  module _ (parts plan counters room : List ℕ) (body_bytes : AllBelow 256 x.body) (room_bytes : AllBelow 256 room) (passed : (make_list formats schema x first n target n parts plan counters room).ground ≡ 0)
+  module _ (parts plan counters room : List ℕ) (body_bytes : AllBelow 256 x.body) (room_bytes : AllBelow 256 room) (passed : (make_list formats schema x first n target n parts plan counters room).refusal ≡ 0)
       (base : ℕ) (body : List ℕ) (bodied : Bodied body (lent formats schema x first m target ok due parts plan counters room body_bytes room_bytes passed) (answer formats schema x first m target ok due parts plan counters room body_bytes room_bytes passed).room base) where
     abbrev Y : Tables
     Y = tables_after formats schema x first m target ok due parts plan counters room body_bytes room_bytes passed base body bodied

@@ -122,7 +122,7 @@ module _ (formats schema : List ℕ) (x : Tables) (first m target : ℕ) (ok-col
   abbrev walk : Out
   walk = view_filled formats schema x first n target n
 
-  module _ (parts plan counters room : List ℕ) (room_bytes : AllBelow 256 room) (passed : (make_view formats schema x first n target n parts plan counters room).ground ≡ 0) where
+  module _ (parts plan counters room : List ℕ) (room_bytes : AllBelow 256 room) (passed : (make_view formats schema x first n target n parts plan counters room).refusal ≡ 0) where
     abbrev answer : Opening
     answer = make_view formats schema x first n target n parts plan counters room
 
@@ -252,7 +252,7 @@ module _ (formats schema : List ℕ) (x : Tables) (first m target : ℕ) (ok-col
         (lengths nulls places names : List ℕ) → length lengths ≡ 2 → length nulls ≡ 1 → length places ≡ 9 → length names ≡ 0
         → finishing lent x.buffers o.counters o.room base lengths nulls places names
         ≡ record {
-          ground = 0;
+          refusal = 0;
           lengths = length_table lent x.buffers o.counters o.room base;
           nulls = null_table lent x.buffers o.counters o.room base;
           places = place_table lent x.buffers o.counters o.room base;

@@ -27,7 +27,7 @@ use Rattle.convert.proofs.convert_lists.ViewLent.{ViewDue}
 use Rattle.convert.proofs.convert_lists.ToViewResult.{answer, lent, root, tables_after, to_view_shows, to_view_again}
 
 module _ (formats schema : List ℕ) (x : Tables) (first m target : ℕ) (good : column_ground formats schema x first (suc m) ≡ 0) (due : ViewDue formats schema first (suc m) target (suc m))
-    (parts plan counters room : List ℕ) (room_bytes : AllBelow 256 room) (passed : (make_view formats schema x first (suc m) target (suc m) parts plan counters room).ground ≡ 0)
+    (parts plan counters room : List ℕ) (room_bytes : AllBelow 256 room) (passed : (make_view formats schema x first (suc m) target (suc m) parts plan counters room).refusal ≡ 0)
     (base : ℕ) (body : List ℕ) (bodied : Bodied body (lent formats schema x first m target good due parts plan counters room room_bytes passed) (answer formats schema x first m target good due parts plan counters room room_bytes passed).room base) where
   abbrev n : ℕ
   n = suc m

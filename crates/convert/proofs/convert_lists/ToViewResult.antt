@@ -63,7 +63,7 @@ module _ (formats schema : List ℕ) (x : Tables) (first m target : ℕ) (good :
   obeys : Source (t_list w t) v
   obeys = lentView.column_good formats schema x first m target good due
 
-  module _ (parts plan counters room : List ℕ) (room_bytes : AllBelow 256 room) (passed : (make_view formats schema x first n target n parts plan counters room).ground ≡ 0) where
+  module _ (parts plan counters room : List ℕ) (room_bytes : AllBelow 256 room) (passed : (make_view formats schema x first n target n parts plan counters room).refusal ≡ 0) where
     abbrev pub answer : Opening
     answer = make_view formats schema x first n target n parts plan counters room
 

@@ -8,7 +8,7 @@ use Rattle.convert.specs.convert_lists.ViewTables.{view_lengths, view_nulls, vie
 
 -- the tables as they are left; ground: 0, or the number of the refusal
 pub record Naming : Type 0 where
-  pub ground : ℕ
+  pub refusal : ℕ
   pub lengths : List ℕ
   pub nulls : List ℕ
   pub places : List ℕ
@@ -21,19 +21,19 @@ tables_fit n lengths nulls places = eqb lengths (2 * n) && eqb nulls n && eqb pl
 -- column, then 14 of tables of other lengths
 module _ (formats schema : List ℕ) (x : Tables) (first n : ℕ) (lengths nulls places : List ℕ) where
   abbrev pub refused : ℕ → Naming
-  refused g = record { ground = g; lengths = lengths; nulls = nulls; places = places }
+  refused g = record { refusal = g; lengths = lengths; nulls = nulls; places = places }
 
   unfoldable pub naming : Naming
   naming =
       cond (eqb (column_ground formats schema x first n) 0)
       (cond (tables_fit n (length lengths) (length nulls) (length places))
-      (record { ground = 0; lengths = view_lengths x first n lengths; nulls = view_nulls x first n nulls; places = view_places x first n places })
+      (record { refusal = 0; lengths = view_lengths x first n lengths; nulls = view_nulls x first n nulls; places = view_places x first n places })
       (refused 14))
       (refused (column_ground formats schema x first n))
 
 -- what a caller sees
 pub record Names (a : Naming) (r : ℕ) (lengths nulls places : List ℕ) : Type 0 where
-  pub ground : r ≡ a.ground
+  pub refusal : r ≡ a.refusal
   pub lengths_are : lengths ≡ a.lengths
   pub nulls_are : nulls ≡ a.nulls
   pub places_are : places ≡ a.places

@@ -84,7 +84,7 @@ module _ (x : Join) (depth : ℕ) where
     dense_home l = rw (← e, le-ltb h 32 l) refl
 
     module _ (l : h < 32) {v m s : ℕ} (p : v ≡ rows c h) (q : m ≡ walked n) (r : s ≡ grown v m) where
-      pub dense-over : 2147483648 < s → {a b d : ℕ} → a ≡ first_position v → a ≤ top → b ≡ a - v → d ≡ 2147483647 → why_null_dense x walk why i n c ≡ record { ground = 6; node = i; row = b; needed = a; allowed = d }
+      pub dense-over : 2147483648 < s → {a b d : ℕ} → a ≡ first_position v → a ≤ top → b ≡ a - v → d ≡ 2147483647 → why_null_dense x walk why i n c ≡ record { refusal = 6; node = i; row = b; needed = a; allowed = d }
       unfolding why_null_dense why_null_home unless
       dense-over h2 {a} f t g k =
           let o : half 4 < rows c h + walked n = omega (arith, cut v m r, p, q, h2) in
@@ -110,7 +110,7 @@ module _ (x : Join) (depth : ℕ) where
     unfolding why_null_end unless
     end_on h = rw (test_is ∙ h) refl
 
-    pub end_over : t ≡ false → {a b : ℕ} → a ≡ grown v n → b ≡ most w → why_null_end x walk why W i n c ≡ record { ground = 7; node = i; row = 0; needed = a; allowed = b }
+    pub end_over : t ≡ false → {a b : ℕ} → a ≡ grown v n → b ≡ most w → why_null_end x walk why W i n c ≡ record { refusal = 7; node = i; row = 0; needed = a; allowed = b }
     unfolding why_null_end unless
     end_over h a b = rw (test_is ∙ h, cut v n a, b, k, q, p) refl
 

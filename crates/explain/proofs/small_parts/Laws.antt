@@ -104,26 +104,26 @@ module _ (plan counters parts : List ℕ) (all i b : ℕ) where
   part_on e h = rw (sym e ∙ h) refl
 
   pub part_over : {t : Bool} → t ≡ part_holds plan counters parts i b → t ≡ false → {s size : ℕ} → s ≡ min (bytes_due plan counters parts all i b) top → size ≡ size_of plan parts i b
-      → record { ground = 13; node = i; row = 0; needed = s; allowed = size } ≡ why_part plan counters parts all i b nothing
+      → record { refusal = 13; node = i; row = 0; needed = s; allowed = size } ≡ why_part plan counters parts all i b nothing
   unfolding why_part unless
   part_over e h p q = rw (sym e ∙ h, p, q) refl
 
   -- what a part says, and what follows it
-  pub part_stops : {w : Why} → w ≡ why_part plan counters parts all i b nothing → (w.ground ≡ 0 → ⊥) → (rest : Why) → why_part plan counters parts all i b rest ≡ w
+  pub part_stops : {w : Why} → w ≡ why_part plan counters parts all i b nothing → (w.refusal ≡ 0 → ⊥) → (rest : Why) → why_part plan counters parts all i b rest ≡ w
   unfolding why_part unless
   part_stops {w} e h rest = go (part_holds plan counters parts i b) e
     where
       go : (t : Bool) → w ≡ cond t nothing (clash 13 i 0 (bytes_due plan counters parts all i b) (size_of plan parts i b)) → cond t rest (clash 13 i 0 (bytes_due plan counters parts all i b) (size_of plan parts i b)) ≡ w
-      go true q = absurd (h (ap (λ z. z.ground) q))
+      go true q = absurd (h (ap (λ z. z.refusal) q))
       go false q = sym q
 
-  pub part_goes : {w : Why} → w ≡ why_part plan counters parts all i b nothing → w.ground ≡ 0 → (rest : Why) → why_part plan counters parts all i b rest ≡ rest
+  pub part_goes : {w : Why} → w ≡ why_part plan counters parts all i b nothing → w.refusal ≡ 0 → (rest : Why) → why_part plan counters parts all i b rest ≡ rest
   unfolding why_part unless
   part_goes {w} e h rest = go (part_holds plan counters parts i b) e
     where
       go : (t : Bool) → w ≡ cond t nothing (clash 13 i 0 (bytes_due plan counters parts all i b) (size_of plan parts i b)) → cond t rest (clash 13 i 0 (bytes_due plan counters parts all i b) (size_of plan parts i b)) ≡ rest
       go true q = refl
-      go false q = absurd (let z : 0 ≡ 13 = sym h ∙ ap (λ y. y.ground) q in omega arith)
+      go false q = absurd (let z : 0 ≡ 13 = sym h ∙ ap (λ y. y.refusal) q in omega arith)
 
 -- ---- nodes
 
@@ -131,14 +131,14 @@ module _ (plan counters parts : List ℕ) (all : ℕ) where
   abbrev says : ℕ → Why → Why
   says i rest = why_part plan counters parts all i 0 (why_part plan counters parts all i 1 (why_part plan counters parts all i 2 rest))
 
-  node_cases : (i : ℕ) (rest : Why) → says i rest ≡ cond (eqb (says i nothing).ground 0) rest (says i nothing)
+  node_cases : (i : ℕ) (rest : Why) → says i rest ≡ cond (eqb (says i nothing).refusal 0) rest (says i nothing)
   unfolding why_part unless
   node_cases i rest = go (part_holds plan counters parts i 0) (part_holds plan counters parts i 1) (part_holds plan counters parts i 2)
     where
       over : ℕ → Why
       over b = clash 13 i 0 (bytes_due plan counters parts all i b) (size_of plan parts i b)
 
-      go : (a b d : Bool) → cond a (cond b (cond d rest (over 2)) (over 1)) (over 0) ≡ cond (eqb (cond a (cond b (cond d nothing (over 2)) (over 1)) (over 0)).ground 0) rest (cond a (cond b (cond d nothing (over 2)) (over 1)) (over 0))
+      go : (a b d : Bool) → cond a (cond b (cond d rest (over 2)) (over 1)) (over 0) ≡ cond (eqb (cond a (cond b (cond d nothing (over 2)) (over 1)) (over 0)).refusal 0) rest (cond a (cond b (cond d nothing (over 2)) (over 1)) (over 0))
       go true true true = refl
       go true true false = refl
       go true false d = refl
@@ -149,10 +149,10 @@ module _ (plan counters parts : List ℕ) (all : ℕ) where
   nodes_none n i e = rw e refl
 
   module _ (n n2 i : ℕ) (e : n ≡ suc n2) {w : Why} (h : w ≡ says i nothing) where
-    pub nodes_stop : (w.ground ≡ 0 → ⊥) → why_parts_from plan counters parts all n i ≡ w
+    pub nodes_stop : (w.refusal ≡ 0 → ⊥) → why_parts_from plan counters parts all n i ≡ w
     unfolding why_parts_from
-    nodes_stop z = rw e (node_cases i (why_parts_from plan counters parts all n2 (suc i)) ∙ rw (← h, ne_eqb w.ground 0 z) refl)
+    nodes_stop z = rw e (node_cases i (why_parts_from plan counters parts all n2 (suc i)) ∙ rw (← h, ne_eqb w.refusal 0 z) refl)
 
-    pub nodes_on : {i2 : ℕ} → i2 ≡ i + 1 → w.ground ≡ 0 → why_parts_from plan counters parts all n i ≡ why_parts_from plan counters parts all n2 i2
+    pub nodes_on : {i2 : ℕ} → i2 ≡ i + 1 → w.refusal ≡ 0 → why_parts_from plan counters parts all n i ≡ why_parts_from plan counters parts all n2 i2
     unfolding why_parts_from
-    nodes_on q z = rw (e, q, add-one i) (node_cases i (why_parts_from plan counters parts all n2 (suc i)) ∙ rw (← h, eq-eqb w.ground 0 z) refl)
+    nodes_on q z = rw (e, q, add-one i) (node_cases i (why_parts_from plan counters parts all n2 (suc i)) ∙ rw (← h, eq-eqb w.refusal 0 z) refl)

@@ -92,7 +92,7 @@ module _ (x : Join) (depth w i slot : ℕ) where
     sum_is : ltb (rows c (suc i) + entry w x.body (place x i 5) (slot + r)) (half w) ≡ t
     sum_is = sym (f ∙ rw (p, q, e) refl)
 
-    pub list_over : not t ≡ true → {v m : ℕ} → v ≡ grown child size → m ≡ most w → {c2 : List ℕ} → RowSays (list_view_row x walk w i slot r c) (why_list_row x walk why w i slot r c) x depth (Here (record { ground = 6; node = i; row = r; needed = v; allowed = m })) c2
+    pub list_over : not t ≡ true → {v m : ℕ} → v ≡ grown child size → m ≡ most w → {c2 : List ℕ} → RowSays (list_view_row x walk w i slot r c) (why_list_row x walk why w i slot r c) x depth (Here (record { refusal = 6; node = i; row = r; needed = v; allowed = m })) c2
     unfolding list_view_row why_list_row need unless fail
     list_over h {v} {m} g l = rw (sum_is ∙ f ∙ no f h) (record { row = ((λ z. absurd (omega (arith, z))), rw (cut child size g, l, p, q, e) refl) })
 

@@ -16,9 +16,9 @@ use Rattle.utils.specs.Offsets.{largest, moved, first_above}
 use Rattle.utils.specs.Extension.{extended, over_at}
 use Rattle.utils.specs.declared.Extended.{Extended}
 use Rattle.utils.specs.declared.Extended.TheVariants.{Fits, Over, Falls}
-use Rattle.run_ends_lem.specs.declared.PhysicalRun.{PhysicalRun}
-use Rattle.run_ends_lem.specs.declared.Runs.{Runs}
-use Rattle.run_ends_lem.specs.declared.Runs.TheVariants.{Range, None}
+use Rattle.run_ends.specs.declared.PhysicalRun.{PhysicalRun}
+use Rattle.run_ends.specs.declared.Runs.{Runs}
+use Rattle.run_ends.specs.declared.Runs.TheVariants.{Range, None}
 use Rattle.leaf_walk.specs.variable_size.Lists.{tried_offsets}
 use Rattle.walk.specs.State.{Join, code_of, end_of, bytes_of, rows, bytes, place, length_of, offset_of, far, slot_of, rows_in, grown, top}
 use Rattle.walk.specs.Log.{Out, Did, fail, done, need, found, next, wrote}
@@ -98,8 +98,8 @@ module _ (x : Join) (depth : ℕ) where
             go true h = over_cut w x.body (place x i 3 + w * slot) n (rows c (suc i)) h
             go false h = absurd (let z : ◌≡◌ {A = ℕ} 0 1 = cc in omega arith)
 
-        pub list_clash : {row needed m : ℕ} → e ≡ Over row needed → m ≡ most w → why_list x walk why w i slot n c ≡ record { ground = 6; node = i; row = row; needed = needed; allowed = m }
-        list_clash {row} {needed} k g = list_by_lem ∙ rw (k, g) (ap (λ z. record { ground = 6; node = i; row = row; needed = z; allowed = most w }) (over_is k))
+        pub list_clash : {row needed m : ℕ} → e ≡ Over row needed → m ≡ most w → why_list x walk why w i slot n c ≡ record { refusal = 6; node = i; row = row; needed = needed; allowed = m }
+        list_clash {row} {needed} k g = list_by_lem ∙ rw (k, g) (ap (λ z. record { refusal = 6; node = i; row = row; needed = z; allowed = most w }) (over_is k))
 
         pub list_falls : e ≡ Falls → why_list x walk why w i slot n c ≡ only 12
         list_falls k = list_by_lem ∙ rw k refl
@@ -127,8 +127,8 @@ module _ (x : Join) (depth : ℕ) where
         pub string_fits : {last lead v : ℕ} → e ≡ Fits last lead → v ≡ cond (leb (place x i 5 + lead + (last - old)) (length x.body)) 0 12 → why_string x walk why w i slot n c ≡ only v
         string_fits {last} {lead} k l = string_by ∙ rw (k, l, o) (ap only (string_ans x i w (place x i 3 + w * slot) n last lead c))
 
-        pub string-clash : {row needed m : ℕ} → e ≡ Over row needed → m ≡ most w → why_string x walk why w i slot n c ≡ record { ground = 6; node = i; row = row; needed = needed; allowed = m }
-        string-clash {row} {needed} k l = string_by ∙ rw (k, l) (ap (λ z. record { ground = 6; node = i; row = row; needed = z; allowed = most w }) (over_cut w x.body from n old (sym g ∙ k)))
+        pub string-clash : {row needed m : ℕ} → e ≡ Over row needed → m ≡ most w → why_string x walk why w i slot n c ≡ record { refusal = 6; node = i; row = row; needed = needed; allowed = m }
+        string-clash {row} {needed} k l = string_by ∙ rw (k, l) (ap (λ z. record { refusal = 6; node = i; row = row; needed = z; allowed = most w }) (over_cut w x.body from n old (sym g ∙ k)))
 
         pub string_falls : e ≡ Falls → why_string x walk why w i slot n c ≡ only 12
         string_falls k = string_by ∙ rw k refl
@@ -183,7 +183,7 @@ module _ (x : Join) (depth : ℕ) where
     dense_none h c2 = rw (← e, le-ltb k 32 h) (record { row = ((λ z. absurd (omega (arith, z))), refl) })
 
     module _ (l : k < 32) {v : ℕ} (p : v ≡ rows c k) where
-      pub dense-over : 2147483648 ≤ v → (c2 : List ℕ) → v ≤ top → RowSays (dense_row x walk i slot r c) (why_dense_row x walk why i slot r c) x depth (Here (record { ground = 6; node = i; row = r; needed = v; allowed = 2147483647 })) c2
+      pub dense-over : 2147483648 ≤ v → (c2 : List ℕ) → v ≤ top → RowSays (dense_row x walk i slot r c) (why_dense_row x walk why i slot r c) x depth (Here (record { refusal = 6; node = i; row = r; needed = v; allowed = 2147483647 })) c2
       unfolding dense_row why_dense_row why_dense_at why_dense_to dense_to found need unless fail
       dense-over h c2 m =
           let y : min v top ≡ v = min-eq_left m in
@@ -245,7 +245,7 @@ module _ (x : Join) (depth : ℕ) where
           go v y (end_over q e h) z = e
           go v y (all_ready q h) z = absurd (omega (arith, q, z))
 
-      pub run-clash : g ≡ 7 → {r v w m : ℕ} → r ≡ rows c i → v ≡ grown r n → w ≡ W → m ≡ most w → why_runs x walk why i slot n c ≡ record { ground = g; node = i; row = 0; needed = v; allowed = m }
+      pub run-clash : g ≡ 7 → {r v w m : ℕ} → r ≡ rows c i → v ≡ grown r n → w ≡ W → m ≡ most w → why_runs x walk why i slot n c ≡ record { refusal = g; node = i; row = 0; needed = v; allowed = m }
       run-clash z {r} {v} {w} {m} p q k l = rw (z, cut r n q, p, l, k) (go (runs_ready x i n c).ans (why_runs x walk why i slot n c) (asked s) (sym d ∙ z))
         where
           go : (v : ℕ) (y : Why) → Asked v y → v ≡ 7 → y ≡ clash 7 i 0 (rows c i + n) (most W)

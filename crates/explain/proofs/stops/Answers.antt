@@ -30,19 +30,19 @@ numbered_has _ run_end a b = absurd (b refl)
 numbered_has _ part a b = refl
 
 -- "The needed number .. is the first that clashes and above the allowed one"
-pub needed_above : (w : Why) → Stated w → HasNumbers w.ground → w.allowed < w.needed
+pub needed_above : (w : Why) → Stated w → HasNumbers w.refusal → w.allowed < w.needed
 needed_above _ (blank g b) h = absurd (blank_none g b h)
 needed_above _ (homeless g i b) h = absurd (homeless_none g b h)
 needed_above _ (above g i r n m s q l) h = l
 
 -- ".. else two zeros", and row 0
-pub other_zeros : (w : Why) → Stated w → (HasNumbers w.ground → ⊥) → (w.row ≡ 0) × (w.needed ≡ 0) × (w.allowed ≡ 0)
+pub other_zeros : (w : Why) → Stated w → (HasNumbers w.refusal → ⊥) → (w.row ≡ 0) × (w.needed ≡ 0) × (w.allowed ≡ 0)
 other_zeros _ (blank g b) h = (refl, refl, refl)
 other_zeros _ (homeless g i b) h = (refl, refl, refl)
 other_zeros _ (above g i r n m s q l) h = absurd (h (numbered_has g s))
 
 -- "for 7 .. , for 13 .. , both at row 0"
-pub row_zero : (w : Why) → Stated w → (w.ground ≡ 6 → ⊥) → w.row ≡ 0
+pub row_zero : (w : Why) → Stated w → (w.refusal ≡ 6 → ⊥) → w.row ≡ 0
 row_zero _ (blank g b) h = refl
 row_zero _ (homeless g i b) h = refl
 row_zero _ (above _ i r n m offset q l) h = absurd (h refl)
@@ -50,14 +50,14 @@ row_zero _ (above _ i r n m run_end q l) h = q
 row_zero _ (above _ i r n m part q l) h = q
 
 -- 1, 2, 3, 9, 12 and 14 name no node
-pub no_node : (w : Why) → Stated w → (HasNumbers w.ground → ⊥) → (w.ground ≡ 4 → ⊥) → (w.ground ≡ 5 → ⊥) → w ≡ only w.ground
+pub no_node : (w : Why) → Stated w → (HasNumbers w.refusal → ⊥) → (w.refusal ≡ 4 → ⊥) → (w.refusal ≡ 5 → ⊥) → w ≡ only w.refusal
 no_node _ (blank g b) h p q = refl
 no_node _ (homeless _ i no_fields) h p q = absurd (p refl)
 no_node _ (homeless _ i no_nullable) h p q = absurd (q refl)
 no_node _ (above g i r n m s k l) h p q = absurd (h (numbered_has g s))
 
 -- "For an accepted order it says that nothing stopped it"
-pub accepted_nothing : (w : Why) → Stated w → w.ground ≡ 0 → w ≡ nothing
+pub accepted_nothing : (w : Why) → Stated w → w.refusal ≡ 0 → w ≡ nothing
 accepted_nothing w t e =
     subst (λ g. w ≡ only g) e
     (no_node w t (λ h. absurd (omega (arith, e, h (λ z. absurd (omega (arith, z, e))) (λ z. absurd (omega (arith, z, e)))))) (λ z. absurd (omega (arith, z, e))) (λ z. absurd (omega (arith, z, e))))

@@ -13,8 +13,8 @@ use Rattle.schema.specs.formats.Code.{between, is_fixed, is_string, is_view, is_
 use Rattle.utils.specs.Extension.{extended}
 use Rattle.utils.specs.declared.Extended.{Extended}
 use Rattle.utils.specs.declared.Extended.TheVariants.{Fits, Over, Falls}
-use Rattle.run_ends_lem.specs.declared.Runs.{Runs}
-use Rattle.run_ends_lem.specs.declared.Runs.TheVariants.{Range, None}
+use Rattle.run_ends.specs.declared.Runs.{Runs}
+use Rattle.run_ends.specs.declared.Runs.TheVariants.{Range, None}
 use Rattle.walk.specs.State.{Join, code_of, dictionary_of, end_of, keeps_of, bytes_of, rows, bytes, place, length_of, offset_of, far, slot_of, rows_in}
 use Rattle.walk.specs.Log.{Entry, Out, fail, done, wrote, need, next}
 use Rattle.walk.specs.Leaves.{copy_bits, copy_mask, copy_numbers, copy_keys, copy_views, put_string, put_extended, copy_string}
@@ -48,7 +48,7 @@ quiet_blank o q = says_only o (go o.ans q.calm)
     go _ foreign = not_lent
 
 pub quiet_says : (o : Out) → Quiet o → (o.ans ≡ 0 → ⊥) → Says (only 12) o
-quiet_says o q h = record { ground = go o.ans q.calm h; table = blank 12 not_lent }
+quiet_says o q h = record { refusal = go o.ans q.calm h; table = blank 12 not_lent }
   where
     go : (g : ℕ) → Calm g → (g ≡ 0 → ⊥) → 12 ≡ g
     go _ goes_on h = absurd (h refl)
@@ -131,7 +131,7 @@ module _ (x : Join) (walk : Walk) (why : WhyWalk) (below : (k a n : ℕ) (c : Li
   stretch_says : (w i from n : ℕ) (e : Extended) (c : List ℕ) → AboveMost w e → Says (why_stretch x walk why w i e c) (put_list x walk w i from n e c)
   unfolding put_stretch fail
   stretch_says w i from n (Fits last first) c h = says_wrote _ c _ (below (suc i) first (last - rows c (suc i)) c)
-  stretch_says w i from n (Over row needed) c h = record { ground = refl; table = above 6 i row needed (most w) offset tt h }
+  stretch_says w i from n (Over row needed) c h = record { refusal = refl; table = above 6 i row needed (most w) offset tt h }
   stretch_says w i from n Falls c h = says_fail c
 
   list_says : (w i slot n : ℕ) (c : List ℕ) → Wide w → Says (why_list x walk why w i slot n c) (copy_list x walk w i slot n c)
@@ -145,7 +145,7 @@ module _ (x : Join) (walk : Walk) (why : WhyWalk) (below : (k a n : ℕ) (c : Li
   bytes_says : (w i from n : ℕ) (e : Extended) (c : List ℕ) → AboveMost w e → Says (why_bytes x walk why w i from n e c) (put_extended x i w from n e c)
   unfolding fail
   bytes_says w i from n (Fits last first) c h = quiet_blank _ (quiet_bytes x i w from n last first c)
-  bytes_says w i from n (Over row needed) c h = record { ground = refl; table = above 6 i row needed (most w) offset tt h }
+  bytes_says w i from n (Over row needed) c h = record { refusal = refl; table = above 6 i row needed (most w) offset tt h }
   bytes_says w i from n Falls c h = says_fail c
 
   string_says : (w i slot n : ℕ) (c : List ℕ) → Wide w → Says (why_string x walk why w i slot n c) (copy_string x i w slot n c)

@@ -3,7 +3,7 @@ use mathlib.Core.Path.{◌≡◌, refl}
 use Rattle.number.specs.Number.{number, encode}
 use Rattle.utils.specs.Offsets.{first_above}
 use Rattle.utils.specs.Extension.{extended, over_at}
-use Rattle.run_ends_lem.specs.Lookup as lookup
+use Rattle.run_ends.specs.Lookup as lookup
 use Rattle.walk.specs.State.{grown, slot_of, rows_in}
 use Rattle.walk.specs.Log.{fail, done, wrote, need, found, next, each}
 use Rattle.walk.specs.Leaves.{copy_mask, null_mask, count_nulls, copy_numbers, null_numbers, put_string, copy_string}

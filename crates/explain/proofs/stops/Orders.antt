@@ -31,7 +31,7 @@ use Rattle.explain.proofs.stops.Shorts.{parts_ground, parts_stated}
 
 -- the explanation has the order's ground, and is a row of the table
 pub record Tells (w : Why) (a : After) : Type 0 where
-  pub ground : w.ground ≡ a.ground
+  pub refusal : w.refusal ≡ a.refusal
   pub table : Stated w
 
 module _ (x : Lent) (counters room : List ℕ) where
@@ -42,7 +42,7 @@ module _ (x : Lent) (counters room : List ℕ) where
   Goes w a = walkable x.plan m ≡ true → Tells w a
 
   refused_tells : (g : ℕ) → Blank g → Tells (only g) (refused x counters room g)
-  refused_tells g b = record { ground = refl; table = blank g b }
+  refused_tells g b = record { refusal = refl; table = blank g b }
 
   small : walkable x.plan m ≡ true → m < top
   unfolding walkable
@@ -54,9 +54,9 @@ module _ (x : Lent) (counters room : List ℕ) where
   settled_tells n o w s h = go (eqb o.ans 0) (parts_within x.plan x.parts m) refl
     where
       held : Bool → After
-      held b = cond b (record { ground = 0; counters = o.counters; room = apply x.plan x.parts o.log room }) (refused x counters room 13)
+      held b = cond b (record { refusal = 0; counters = o.counters; room = apply x.plan x.parts o.log room }) (refused x counters room 13)
 
-      held_ground : (b : Bool) → cond b 0 13 ≡ (held b).ground
+      held_ground : (b : Bool) → cond b 0 13 ≡ (held b).refusal
       held_ground true = refl
       held_ground false = refl
 
@@ -67,11 +67,11 @@ module _ (x : Lent) (counters room : List ℕ) where
           → Tells (cond a (cond b short (only 14)) w) (cond a (cond b (held (parts_hold x.plan o.counters x.parts)) (refused x counters room 14)) (refused x counters room o.ans))
       go true true e =
           record {
-            ground = parts_ground x.plan o.counters x.parts (rows counters 0 + n) ∙ held_ground (parts_hold x.plan o.counters x.parts);
+            refusal = parts_ground x.plan o.counters x.parts (rows counters 0 + n) ∙ held_ground (parts_hold x.plan o.counters x.parts);
             table = parts_stated x.plan o.counters x.parts (rows counters 0 + n) m (small h) e;
           }
       go true false e = refused_tells 14 not_placed
-      go false b e = record { ground = s.ground; table = s.table }
+      go false b e = record { refusal = s.refusal; table = s.table }
 
   pub copy_tells : (s a e : ℕ) → Tells (why_copy_order x m counters s a e) (copy_order x counters room s a e)
   unfolding why_copy_order copy_order unless

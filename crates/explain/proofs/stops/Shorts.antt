@@ -82,13 +82,13 @@ module _ (plan counters parts : List ℕ) (all : ℕ) where
       go false b d p q r t = first_short i 0 (omega arith) (omega arith) (omega arith) p (none_before i) (λ k l. absurd (omega arith))
 
   -- 13 exactly where a part is short
-  said_ground : (w : Why) → PartsSay (nodes_of plan) 0 w → w.ground ≡ cond (parts_hold plan counters parts) 0 13
+  said_ground : (w : Why) → PartsSay (nodes_of plan) 0 w → w.refusal ≡ cond (parts_hold plan counters parts) 0 13
   unfolding parts_hold
   said_ground _ (all_hold f) = rw (every_all (λ i. every (λ b. part_holds plan counters parts i b) 3) (nodes_of plan) (λ i l. every_all (λ b. part_holds plan counters parts i b) 3 (f i (omega arith) (omega arith)))) refl
   said_ground _ (first_short j b p q r s f t) =
       rw (every_false (λ i. every (λ b. part_holds plan counters parts i b) 3) (nodes_of plan) j (omega arith) (every_false (λ b. part_holds plan counters parts j b) 3 b r s)) refl
 
-  pub parts_ground : (why_parts plan counters parts all).ground ≡ cond (parts_hold plan counters parts) 0 13
+  pub parts_ground : (why_parts plan counters parts all).refusal ≡ cond (parts_hold plan counters parts) 0 13
   parts_ground = said_ground _ (parts_say (nodes_of plan) 0)
 
   -- ---- the bytes due are more than the part has

@@ -37,14 +37,14 @@ module _ (x : Lent) (c r : List ℕ) where
     pub counters : a.counters ≡ q.counters
     pub size : length a.room ≡ length r
 
-  settled_leaves : (o : Out) → (settled x c r o).ground ≡ 0 → Leaves (settled x c r o) (measured c o)
+  settled_leaves : (o : Out) → (settled x c r o).refusal ≡ 0 → Leaves (settled x c r o) (measured c o)
   unfolding settled measured
   settled_leaves o = go (eqb o.ans 0) refl (parts_within x.plan x.parts (length r)) (parts_hold x.plan o.counters x.parts)
     where
       after : Bool → Bool → Bool → After
-      after a b d = cond a (cond b (cond d (record { ground = 0; counters = o.counters; room = apply x.plan x.parts o.log r }) (refused x c r 13)) (refused x c r 14)) (refused x c r o.ans)
+      after a b d = cond a (cond b (cond d (record { refusal = 0; counters = o.counters; room = apply x.plan x.parts o.log r }) (refused x c r 13)) (refused x c r 14)) (refused x c r o.ans)
 
-      go : (a : Bool) → eqb o.ans 0 ≡ a → (b d : Bool) → (after a b d).ground ≡ 0 → Leaves (after a b d) (cond a (record { ground = 0; counters = o.counters }) (unmeasured c o.ans))
+      go : (a : Bool) → eqb o.ans 0 ≡ a → (b d : Bool) → (after a b d).refusal ≡ 0 → Leaves (after a b d) (cond a (record { refusal = 0; counters = o.counters }) (unmeasured c o.ans))
       go true e true true z = record { counters = refl; size = apply_long x.plan x.parts o.log r }
       go true e true false z = absurd (omega (arith, z))
       go true e false d z = absurd (omega (arith, z))
@@ -54,7 +54,7 @@ module _ (x : Lent) (c r : List ℕ) where
   unfolding walkable
   sound_plan q e h = and_right (leb (length r) ceiling) _ (e ∙ h)
 
-  order_leaves : (o : Call) → (ordered x c r o).ground ≡ 0 → Leaves (ordered x c r o) (order_measure x c o)
+  order_leaves : (o : Call) → (ordered x c r o).refusal ≡ 0 → Leaves (ordered x c r o) (order_measure x c o)
   unfolding copy_order copy_measure null_order null_measure
   order_leaves (copy s a e) = go (eqb (length c) 96) (walkable x.plan (length r)) (ltb s (source_count x.plan)) (leb a e && leb e (source_length x s)) refl
     where
@@ -62,7 +62,7 @@ module _ (x : Lent) (c r : List ℕ) where
       o = copy_walk (join_of x s) 8 0 a (e - a) c
 
       go : (p q u t : Bool) → walkable x.plan (length r) ≡ q
-          → (cond p (cond q (cond u (cond t (settled x c r o) (refused x c r 2)) (refused x c r 1)) (refused x c r 14)) (refused x c r 14)).ground ≡ 0
+          → (cond p (cond q (cond u (cond t (settled x c r o) (refused x c r 2)) (refused x c r 1)) (refused x c r 14)) (refused x c r 14)).refusal ≡ 0
           → Leaves (cond p (cond q (cond u (cond t (settled x c r o) (refused x c r 2)) (refused x c r 1)) (refused x c r 14)) (refused x c r 14))
           (cond p (cond (plan_sound x.plan) (cond u (cond t (measured c o) (unmeasured c 2)) (unmeasured c 1)) (unmeasured c 14)) (unmeasured c 14))
       go true true true true h z = rw (sound_plan true h refl) (settled_leaves o z)
@@ -76,7 +76,7 @@ module _ (x : Lent) (c r : List ℕ) where
       o = null_walk (join_of x 0) 8 0 (min n far) c
 
       go : (p q u : Bool) → walkable x.plan (length r) ≡ q
-          → (cond p (cond q (cond u (refused x c r 3) (settled x c r o)) (refused x c r 14)) (refused x c r 14)).ground ≡ 0
+          → (cond p (cond q (cond u (refused x c r 3) (settled x c r o)) (refused x c r 14)) (refused x c r 14)).refusal ≡ 0
           → Leaves (cond p (cond q (cond u (refused x c r 3) (settled x c r o)) (refused x c r 14)) (refused x c r 14))
           (cond p (cond (plan_sound x.plan) (cond u (unmeasured c 3) (measured c o)) (unmeasured c 14)) (unmeasured c 14))
       go true true true h z = absurd (omega (arith, z))
@@ -87,7 +87,7 @@ module _ (x : Lent) (c r : List ℕ) where
 -- ---- the list
 
 pub record TellsTrip (w : WhyListed) (a : AfterTrip) : Type 0 where
-  pub ground : w.why.ground ≡ a.ground
+  pub refusal : w.why.refusal ≡ a.refusal
   pub place : w.place ≡ a.place
   pub table : Stated w.why
 
@@ -100,24 +100,24 @@ module _ (x : Lent) (c0 r0 : List ℕ) where
 
   from_tells : (os : List Call) (k : ℕ) (c r : List ℕ) → length r ≡ m → TellsTrip (why_listed_from x m k c os) (carried x c0 r0 k c r os)
   unfolding why_listed_from carried
-  from_tells [] k c r e = record { ground = refl; place = refl; table = blank 0 accepted }
-  from_tells (o ∷ os) k c r e = go (eqb (ordered x c r o).ground 0) refl (λ d s h. from_tells os (suc k) d s h)
+  from_tells [] k c r e = record { refusal = refl; place = refl; table = blank 0 accepted }
+  from_tells (o ∷ os) k c r e = go (eqb (ordered x c r o).refusal 0) refl (λ d s h. from_tells os (suc k) d s h)
     where
       t : Tells (why_order x m c o) (ordered x c r o)
       t = order_says c r o e
 
-      go : (b : Bool) → eqb (ordered x c r o).ground 0 ≡ b → ((d s : List ℕ) → length s ≡ m → TellsTrip (why_listed_from x m (suc k) d os) (carried x c0 r0 (suc k) d s os))
-          → TellsTrip (cond (eqb (why_order x m c o).ground 0) (why_listed_from x m (suc k) (order_measure x c o).counters os) (listed x m k (why_order x m c o)))
-          (cond b (carried x c0 r0 (suc k) (ordered x c r o).counters (ordered x c r o).room os) (given_up x c0 r0 (ordered x c r o).ground k))
+      go : (b : Bool) → eqb (ordered x c r o).refusal 0 ≡ b → ((d s : List ℕ) → length s ≡ m → TellsTrip (why_listed_from x m (suc k) d os) (carried x c0 r0 (suc k) d s os))
+          → TellsTrip (cond (eqb (why_order x m c o).refusal 0) (why_listed_from x m (suc k) (order_measure x c o).counters os) (listed x m k (why_order x m c o)))
+          (cond b (carried x c0 r0 (suc k) (ordered x c r o).counters (ordered x c r o).room os) (given_up x c0 r0 (ordered x c r o).refusal k))
       go true h f =
           let z = eqb-true _ _ h in
           let l = order_leaves x c r o z in
           let s = f (ordered x c r o).counters (ordered x c r o).room (l.size ∙ e) in
-          rw (eq-eqb (why_order x m c o).ground 0 (t.ground ∙ z))
+          rw (eq-eqb (why_order x m c o).refusal 0 (t.refusal ∙ z))
           (subst (λ d. TellsTrip (why_listed_from x m (suc k) d os) (carried x c0 r0 (suc k) (ordered x c r o).counters (ordered x c r o).room os)) l.counters s)
       go false h f =
-          rw (ne_eqb (why_order x m c o).ground 0 (λ z. eqb-false _ _ h (sym t.ground ∙ z)))
-          (record { ground = t.ground; place = refl; table = t.table })
+          rw (ne_eqb (why_order x m c o).refusal 0 (λ z. eqb-false _ _ h (sym t.refusal ∙ z)))
+          (record { refusal = t.refusal; place = refl; table = t.table })
 
   -- THE THEOREM: ground and place are those of the list
   pub trip_tells : (os : List Call) → TellsTrip (why_trip x m c0 os) (trip_order x c0 r0 os)
@@ -126,7 +126,7 @@ module _ (x : Lent) (c0 r0 : List ℕ) where
     where
       go : (b : Bool) → TellsTrip (cond b (why_listed_from x m 0 c0 os) (listed x m 0 (only 9))) (cond b (carried x c0 r0 0 c0 r0 os) (given_up x c0 r0 9 0))
       go true = from_tells os 0 c0 r0 refl
-      go false = record { ground = refl; place = refl; table = blank 9 too_long }
+      go false = record { refusal = refl; place = refl; table = blank 9 too_long }
 
 -- ---- the first that is stopped
 
@@ -134,9 +134,9 @@ module _ (x : Lent) (m : ℕ) where
   data From (k : ℕ) (c r : List ℕ) (os : List Call) (a : WhyListed) : Type 0 where
     all_go : EachAccepted x c r os → a ≡ listed x m 0 nothing → From k c r os a
     stops : (before : List Call) (failing : Call) (behind : List Call) → os ≡ before ++ failing ∷ behind → EachAccepted x c r before
-        → a.why ≡ why_order x m (ordered_all x c r before).counters failing → (a.why.ground ≡ 0 → ⊥) → a.place ≡ k + length before → From k c r os a
+        → a.why ≡ why_order x m (ordered_all x c r before).counters failing → (a.why.refusal ≡ 0 → ⊥) → a.place ≡ k + length before → From k c r os a
 
-  further : (o : Call) (k : ℕ) (c r : List ℕ) (os : List Call) (a : WhyListed) → (ordered x c r o).ground ≡ 0 → From (suc k) (ordered x c r o).counters (ordered x c r o).room os a → From k c r (o ∷ os) a
+  further : (o : Call) (k : ℕ) (c r : List ℕ) (os : List Call) (a : WhyListed) → (ordered x c r o).refusal ≡ 0 → From (suc k) (ordered x c r o).counters (ordered x c r o).room os a → From k c r (o ∷ os) a
   unfolding ordered_all grounds_of
   further o k c r os a z (all_go h e) = all_go (ap₂ ◌∷◌ z h) e
   further o k c r os a z (stops b f t l h w s p) = stops (o ∷ b) f t (ap (o ∷◌) l) (ap₂ ◌∷◌ z h) w s (omega (arith, p))
@@ -144,15 +144,15 @@ module _ (x : Lent) (m : ℕ) where
   from_first : (os : List Call) (k : ℕ) (c r : List ℕ) → length r ≡ m → From k c r os (why_listed_from x m k c os)
   unfolding why_listed_from ordered_all grounds_of
   from_first [] k c r e = all_go refl refl
-  from_first (o ∷ os) k c r e = go (eqb (why_order x m c o).ground 0) refl (λ d s h. from_first os (suc k) d s h)
+  from_first (o ∷ os) k c r e = go (eqb (why_order x m c o).refusal 0) refl (λ d s h. from_first os (suc k) d s h)
     where
       t : Tells (why_order x m c o) (ordered x c r o)
       t = subst (λ z. Tells (why_order x z c o) (ordered x c r o)) e (order_tells x c r o)
 
-      go : (b : Bool) → eqb (why_order x m c o).ground 0 ≡ b → ((d s : List ℕ) → length s ≡ m → From (suc k) d s os (why_listed_from x m (suc k) d os))
+      go : (b : Bool) → eqb (why_order x m c o).refusal 0 ≡ b → ((d s : List ℕ) → length s ≡ m → From (suc k) d s os (why_listed_from x m (suc k) d os))
           → From k c r (o ∷ os) (cond b (why_listed_from x m (suc k) (order_measure x c o).counters os) (listed x m k (why_order x m c o)))
       go true h f =
-          let z = sym t.ground ∙ eqb-true _ _ h in
+          let z = sym t.refusal ∙ eqb-true _ _ h in
           let l = order_leaves x c r o z in
           let s = f (ordered x c r o).counters (ordered x c r o).room (l.size ∙ e) in
           further o k c r os _ z (subst (λ d. From (suc k) (ordered x c r o).counters (ordered x c r o).room os (why_listed_from x m (suc k) d os)) l.counters s)

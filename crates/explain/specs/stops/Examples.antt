@@ -143,7 +143,7 @@ abbrev pub fifth : WhyListed
 fifth = why_trip (bytes_in 5) 16 (counters_of []) (copy 0 0 1 ∷ nulls 1 ∷ copy 0 3 4 ∷ copy 0 4 5 ∷ copy 0 5 7 ∷ copy 0 0 1 ∷ [])
 
 abbrev pub says : ℕ → ℕ → ℕ → ℕ → ℕ → Why
-says g i r n m = record { ground = g; node = i; row = r; needed = n; allowed = m }
+says g i r n m = record { refusal = g; node = i; row = r; needed = n; allowed = m }
 
 -- what is computed, and what is meant
 abbrev pub computed : List Why

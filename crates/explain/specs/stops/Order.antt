@@ -53,7 +53,7 @@ module _ (x : Lent) (m : ℕ) where
   unfoldable pub why_listed_from : ℕ → List ℕ → List Call → WhyListed
   why_listed_from k c [] = listed 0 nothing
   why_listed_from k c (o ∷ os) =
-      cond (eqb (why_order x m c o).ground 0) (why_listed_from (suc k) (order_measure x c o).counters os) (listed k (why_order x m c o))
+      cond (eqb (why_order x m c o).refusal 0) (why_listed_from (suc k) (order_measure x c o).counters os) (listed k (why_order x m c o))
 
   -- "a list too long is 9 with zeros"
   unfoldable pub why_trip : List ℕ → List Call → WhyListed

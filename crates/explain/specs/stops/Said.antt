@@ -17,7 +17,7 @@ module _ (x : Lent) (counters room : List ℕ) where
     pub in_list : os ≡ before ++ failing ∷ behind
     pub before_accepted : EachAccepted x counters room before
     pub why_is : a.why ≡ why_order x (length room) (ordered_all x counters room before).counters failing
-    pub stands : a.why.ground ≡ 0 → ⊥
+    pub stands : a.why.refusal ≡ 0 → ⊥
     pub place_is : a.place ≡ length before
 
   pub data Explained (os : List Call) (a : WhyListed) : Type 0 where

@@ -9,18 +9,18 @@ use Rattle.explain.specs.declared.stops.Why.{Why}
 
 -- a ground that names no node; 0: nothing stopped it
 abbrev pub only : ℕ → Why
-only g = record { ground = g; node = 0; row = 0; needed = 0; allowed = 0 }
+only g = record { refusal = g; node = 0; row = 0; needed = 0; allowed = 0 }
 
 abbrev pub nothing : Why
 nothing = only 0
 
 -- a ground that names node i alone
 abbrev pub named : ℕ → ℕ → Why
-named g i = record { ground = g; node = i; row = 0; needed = 0; allowed = 0 }
+named g i = record { refusal = g; node = i; row = 0; needed = 0; allowed = 0 }
 
 -- row r of node i needs n where m is the largest allowed: "The needed number, cut to 2^64−1"
 abbrev pub clash : ℕ → ℕ → ℕ → ℕ → ℕ → Why
-clash g i r n m = record { ground = g; node = i; row = r; needed = min n top; allowed = m }
+clash g i r n m = record { refusal = g; node = i; row = r; needed = min n top; allowed = m }
 
 -- w unless the test holds
 unfoldable pub unless : Bool → Why → Why → Why

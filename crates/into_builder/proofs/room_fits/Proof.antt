@@ -2,8 +2,8 @@
 use Rattle.array_data.proofs.lent_tables.Laws.{no, yes}
 use Rattle.into_builder.proofs.Whole.{holds_not, holds_out, holds_by}
 use borrow.Author.Rules.{rules}
-use Rattle.into_builder.proofs.room_fits_lem.Statement.{statement}
-use Rattle.into_builder.proofs.room_fits_lem.Tie as tie
+use Rattle.into_builder.proofs.room_fits.Statement.{statement}
+use Rattle.into_builder.proofs.room_fits.Tie as tie
 
 returns : tie.Need-returns
 returns c = holds_not c.before.before.before.before.args.plan.now c.before.before.before.before.args.parts.now c.before.before.before.before.args.counters.now c.before.before.before.before.args.m c.if1.true

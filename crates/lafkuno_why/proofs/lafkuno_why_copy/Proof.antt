@@ -22,7 +22,7 @@ same_length c =
 returns : tie.Need-returns
 returns c =
     let a = c.before.before.before.before.before.before.before.before.before.before.before.before.before.args in
-    (ap (λ (z : Why). z.ground) c.before.before.before.before.why-copy.ensures, c.before.before.put-why.ensures ∙ ap (λ (z : Why). why_answer z a.answer.now) c.before.before.before.before.why-copy.ensures)
+    (ap (λ (z : Why). z.refusal) c.before.before.before.before.why-copy.ensures, c.before.before.put-why.ensures ∙ ap (λ (z : Why). why_answer z a.answer.now) c.before.before.before.before.why-copy.ensures)
 
 pub lafkuno-why-copy-spec : {M : Type 1} → statement M
 lafkuno-why-copy-spec = tie.close (tie.spec why-copy-requires put-why-requires same_length returns)

@@ -22,7 +22,7 @@ same_length c =
 returns : tie.Need-returns
 returns c =
     let a = c.before.before.before.before.before.before.before.before.before.args in
-    ((λ sources lengths places body. ap (λ (z : Why). z.ground) (c.before.before.before.before.why-nulls.ensures sources lengths places body)), (λ sources lengths places body. c.before.before.put-why.ensures ∙ ap (λ (z : Why). why_answer z a.answer.now) (c.before.before.before.before.why-nulls.ensures sources lengths places body)))
+    ((λ sources lengths places body. ap (λ (z : Why). z.refusal) (c.before.before.before.before.why-nulls.ensures sources lengths places body)), (λ sources lengths places body. c.before.before.put-why.ensures ∙ ap (λ (z : Why). why_answer z a.answer.now) (c.before.before.before.before.why-nulls.ensures sources lengths places body)))
 
 pub lafkuno-why-nulls-spec : {M : Type 1} → statement M
 lafkuno-why-nulls-spec = tie.close (tie.spec why-nulls-requires put-why-requires same_length returns)

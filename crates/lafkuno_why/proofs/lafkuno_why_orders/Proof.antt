@@ -22,7 +22,7 @@ same_length c =
 returns : tie.Need-returns
 returns c =
     let a = c.before.before.before.before.before.before.before.before.before.before.before.before.before.before.args in
-    (ap (λ (z : WhyListed). z.why.ground) c.before.before.before.before.why-orders.ensures, c.before.before.put-listed.ensures ∙ ap (λ (z : WhyListed). listed_answer z a.answer.now) c.before.before.before.before.why-orders.ensures)
+    (ap (λ (z : WhyListed). z.why.refusal) c.before.before.before.before.why-orders.ensures, c.before.before.put-listed.ensures ∙ ap (λ (z : WhyListed). listed_answer z a.answer.now) c.before.before.before.before.why-orders.ensures)
 
 pub lafkuno-why-orders-spec : {M : Type 1} → statement M
 lafkuno-why-orders-spec = tie.close (tie.spec why-orders-requires put-listed-requires same_length returns)

@@ -28,7 +28,7 @@ slice-write-answer-4 c = search rules
 slice-write-answer-5 : tie.Need-slice-write-answer-5
 slice-write-answer-5 c =
     let a = c.before.before.args in
-    omega (arith, four_set a.answer.now a.w.why.ground a.w.why.node a.w.why.row a.w.why.needed, c.before.if1.false)
+    omega (arith, four_set a.answer.now a.w.why.refusal a.w.why.node a.w.why.row a.w.why.needed, c.before.if1.false)
 
 cast-answer-2 : tie.Need-overflow-cast-answer-2
 cast-answer-2 c = search rules
@@ -36,7 +36,7 @@ cast-answer-2 c = search rules
 slice-write-answer-6 : tie.Need-slice-write-answer-6
 slice-write-answer-6 c =
     let a = c.before.before.before.args in
-    omega (arith, five_set a.answer.now a.w.why.ground a.w.why.node a.w.why.row a.w.why.needed a.w.why.allowed, c.before.before.if1.false)
+    omega (arith, five_set a.answer.now a.w.why.refusal a.w.why.node a.w.why.row a.w.why.needed a.w.why.allowed, c.before.before.if1.false)
 
 same_length : tie.Need-same-length
 same_length c = search rules

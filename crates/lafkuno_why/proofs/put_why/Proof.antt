@@ -28,7 +28,7 @@ slice-write-answer-4 c = search rules
 slice-write-answer-5 : tie.Need-slice-write-answer-5
 slice-write-answer-5 c =
     let a = c.before.before.args in
-    omega (arith, four_set a.answer.now a.w.ground a.w.node a.w.row a.w.needed, c.before.if1.false)
+    omega (arith, four_set a.answer.now a.w.refusal a.w.node a.w.row a.w.needed, c.before.if1.false)
 
 same_length : tie.Need-same-length
 same_length c = search rules

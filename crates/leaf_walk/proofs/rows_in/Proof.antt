@@ -3,8 +3,8 @@ use mathlib.Core.Path.{◌∙◌}
 use Rattle.leaf_walk.specs.Join.{join}
 use Rattle.leaf_walk.proofs.Laws.{rows_is}
 use borrow.Author.Rules.{rules}
-use Rattle.leaf_walk.proofs.rows_in_lem.Statement.{statement}
-use Rattle.leaf_walk.proofs.rows_in_lem.Tie as tie
+use Rattle.leaf_walk.proofs.rows_in.Statement.{statement}
+use Rattle.leaf_walk.proofs.rows_in.Tie as tie
 
 add-rows-fit-behind : tie.Need-overflow-add-rows-fit-behind
 add-rows-fit-behind c = search rules

@@ -5,8 +5,8 @@ use borrow.Author.Rules.{rules}
 use Rattle.array_data.specs.lent_tables.Lent.{tables}
 use Rattle.plan.specs.Plan.{flag}
 use Rattle.plan.proofs.Laws.{joined_none, joined_by, shared_at}
-use Rattle.plan.proofs.joined_word_lem.Statement.{statement}
-use Rattle.plan.proofs.joined_word_lem.Tie as tie
+use Rattle.plan.proofs.joined_word.Statement.{statement}
+use Rattle.plan.proofs.joined_word.Tie as tie
 
 dictionary-of-requires : tie.Need-dictionary-of-requires
 dictionary-of-requires c κs = search rules

@@ -83,7 +83,7 @@ module _ (x : Lent) (buffers : List ℕ) (tree : Tree) (root : Ty) (m : ℕ) (co
       → length nulls ≡ nodes_of x.plan → length places ≡ 9 * nodes_of x.plan → length names ≡ 2 * buffers_before x buffers counters room base (nodes_of x.plan)
       → finishing x buffers counters room base lengths nulls places names
       ≡ record {
-        ground = 0;
+        refusal = 0;
         lengths = length_table x buffers counters room base;
         nulls = null_table x buffers counters room base;
         places = place_table x buffers counters room base;

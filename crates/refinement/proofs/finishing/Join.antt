@@ -118,7 +118,7 @@ module _ (formats schema sources : List ℕ) (x : Tables) (keep gaps : Bool) (pa
       → length names ≡ 2 * buffers_before lent x.buffers left.counters left.room base (Parts.nodes_of lent.plan)
       → finishing lent x.buffers left.counters left.room base lengths nulls places names
       ≡ record {
-        ground = 0;
+        refusal = 0;
         lengths = length_table lent x.buffers left.counters left.room base;
         nulls = null_table lent x.buffers left.counters left.room base;
         places = place_table lent x.buffers left.counters left.room base;

@@ -12,7 +12,7 @@ use Rattle.utils.specs.Pieces.{pieces}
 use Rattle.utils.specs.Offsets.{moved_offsets, repeated, counted_up}
 use Rattle.utils.specs.primitive.Primitive.{rebased}
 use Rattle.utils.specs.byte_view.View.{reviewed_one, reviewed}
-use Rattle.run_ends_lem.specs.Clip.{clip, clipped}
+use Rattle.run_ends.specs.Clip.{clip, clipped}
 use Rattle.refinement.specs.log_in_room.Room.{AllBelow}
 
 below_encode : (w n : ℕ) → Below 256 (encode w n)

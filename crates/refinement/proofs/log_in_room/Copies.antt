@@ -14,8 +14,8 @@ use Rattle.utils.specs.Offsets.{moved_offsets}
 use Rattle.utils.specs.Extension.{extended}
 use Rattle.utils.specs.declared.Extended.{Extended}
 use Rattle.utils.specs.declared.Extended.TheVariants.{Fits, Over, Falls}
-use Rattle.run_ends_lem.specs.declared.Runs.{Runs}
-use Rattle.run_ends_lem.specs.declared.Runs.TheVariants.{Range, None}
+use Rattle.run_ends.specs.declared.Runs.{Runs}
+use Rattle.run_ends.specs.declared.Runs.TheVariants.{Range, None}
 use Rattle.walk.specs.State.{Join, code_of, dictionary_of, end_of, keeps_of, base_of, bytes_of, rows, bytes, place, far}
 use Rattle.walk.specs.Leaves.{copy_bits, copy_mask, copy_numbers, copy_keys, copy_views, put_string, put_extended, copy_string}
 use Rattle.walk.specs.Copy.{Walk, is_width, masked, list_view_row, copy_list_view, put_stretch, copy_list, copy_sparse, id_at, dense_to, dense_row, copy_dense, put_runs, runs_at, copy_runs, copy_data, copy_slots, copy_node, copy_walk, each_field}

@@ -131,12 +131,12 @@ module _ (formats schema sources : List ℕ) (x : Tables) (keep gaps : Bool) (pa
     Unchanged a = (a.plan ≡ plan) × (a.counters ≡ counters) × (a.room ≡ room)
 
     -- A REFUSED OPENING leaves plan, counters and room: "State and every byte stay."
-    pub opening_refused : (answer.ground ≡ 0 → ⊥) → (answer.plan ≡ plan) × (answer.counters ≡ counters) × (answer.room ≡ room)
+    pub opening_refused : (answer.refusal ≡ 0 → ⊥) → (answer.plan ≡ plan) × (answer.counters ≡ counters) × (answer.room ≡ room)
     unfolding opening settled
     opening_refused =
         go (leb (length room) ceiling) (eqb (sources_ground formats schema x sources) 0) placed_well (eqb walked.ans 0) (parts_hold lent.plan walked.counters parts) _ refl
       where
-        go : (a b c d e : Bool) (y : Opening) → y.ground ≡ 0 → ((chosen a b c (chosen_last d e y)).ground ≡ 0 → ⊥) → Unchanged (chosen a b c (chosen_last d e y))
+        go : (a b c d e : Bool) (y : Opening) → y.refusal ≡ 0 → ((chosen a b c (chosen_last d e y)).refusal ≡ 0 → ⊥) → Unchanged (chosen a b c (chosen_last d e y))
         go false b c d e y q h = (refl, refl, refl)
         go true false c d e y q h = (refl, refl, refl)
         go true true false d e y q h = (refl, refl, refl)
@@ -145,12 +145,12 @@ module _ (formats schema sources : List ℕ) (x : Tables) (keep gaps : Bool) (pa
         go true true true true true y q h = absurd (h q)
 
     -- the grounds before the walk
-    pub tests : answer.ground ≡ 0 → (length room ≤ ceiling) × (sources_ground formats schema x sources ≡ 0) × (placed_well ≡ true)
+    pub tests : answer.refusal ≡ 0 → (length room ≤ ceiling) × (sources_ground formats schema x sources ≡ 0) × (placed_well ≡ true)
     unfolding opening
     tests h = go (leb (length room) ceiling) refl (eqb (sources_ground formats schema x sources) 0) refl placed_well refl _ h
       where
         go : (a : Bool) → leb (length room) ceiling ≡ a → (b : Bool) → eqb (sources_ground formats schema x sources) 0 ≡ b → (c : Bool) → placed_well ≡ c → (y : Opening)
-            → (chosen a b c y).ground ≡ 0 → (length room ≤ ceiling) × (sources_ground formats schema x sources ≡ 0) × (placed_well ≡ true)
+            → (chosen a b c y).refusal ≡ 0 → (length room ≤ ceiling) × (sources_ground formats schema x sources ≡ 0) × (placed_well ≡ true)
         go true e true f true g y h = (leb-true _ _ e, eqb-true _ _ f, g)
         go true e true f false g y h = absurd (omega arith)
         go true e false f c g y h = absurd (eqb-false _ _ f h)
@@ -169,16 +169,16 @@ module _ (formats schema sources : List ℕ) (x : Tables) (keep gaps : Bool) (pa
           (opening_step formats schema sources x keep gaps parts t m ss plan counters room g.kept g.entries (stands.placed parts (length room) lie small) (stands.within parts (length room) lie) room_bytes
           (λ o. joined formats schema sources x keep gaps ok o parts body_bytes stands.laid stands.all_nodes_lem stands.sound) (walk.opens lent t m ss keep gaps g) (opens_used lent t m ss keep gaps g))
 
-      opens_ground : {p : Try (Destination t)} {a : Opening} → Opens formats schema sources x keep gaps parts t m ss plan counters room p a → a.ground ≡ ground_of p
+      opens_ground : {p : Try (Destination t)} {a : Opening} → Opens formats schema sources x keep gaps parts t m ss plan counters room p a → a.refusal ≡ ground_of p
       opens_ground (opens d a g pl join μ run joins) = g
       opens_ground (not_opened g a q pos pl c r) = q
 
       -- .. its ground too
-      pub opening_ground : length room ≤ ceiling → sources_ground formats schema x sources ≡ 0 → placed_well ≡ true → answer.ground ≡ ground_of (open_in lent.plan parts gaps t keep m ss)
+      pub opening_ground : length room ≤ ceiling → sources_ground formats schema x sources ≡ 0 → placed_well ≡ true → answer.refusal ≡ ground_of (open_in lent.plan parts gaps t keep m ss)
       opening_ground small ok placed = opens_ground (opening_opens small ok placed)
 
       opens_run : (p : Try (Destination t)) (a : Opening) → sources_ground formats schema x sources ≡ 0 → Opens formats schema sources x keep gaps parts t m ss plan counters room p a
-          → open_in lent.plan parts gaps t keep m ss ≡ p → a.ground ≡ 0 → Opened a
+          → open_in lent.plan parts gaps t keep m ss ≡ p → a.refusal ≡ 0 → Opened a
       opens_run _ _ ok (opens d a g pl join μ run joins) e h =
           let z = begun d e in
           record {
@@ -193,7 +193,7 @@ module _ (formats schema sources : List ℕ) (x : Tables) (keep gaps : Bool) (pa
       opens_run _ _ ok (not_opened g a q pos pl c r) e h = absurd (omega (arith, q, h))
 
       -- AN ACCEPTED OPENING: the model's opening is done, and orders run from what it leaves
-      pub opening_runs : answer.ground ≡ 0 → Opened answer
+      pub opening_runs : answer.refusal ≡ 0 → Opened answer
       opening_runs h =
           let g = tests h in
           opens_run (open_in lent.plan parts gaps t keep m ss) answer g.1 (opening_opens g.0 g.1 g.2) refl h

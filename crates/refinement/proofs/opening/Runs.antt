@@ -66,9 +66,9 @@ module _ (formats schema sources : List ℕ) (x : Tables) (keep gaps : Bool) (pa
   module _ (plan counters room : List ℕ) where
     -- an answer and what the opening comes to: orders run from there, or plan, counters and room are as they were
     pub data Opens : Try (Destination t) → Opening → Type 0 where
-      opens : (d : Destination t) (a : Opening) → a.ground ≡ 0 → a.plan ≡ lent.plan → (join : Joined lent t m ss) (μ : Memory)
+      opens : (d : Destination t) (a : Opening) → a.refusal ≡ 0 → a.plan ≡ lent.plan → (join : Joined lent t m ss) (μ : Memory)
           → Running lent t m ss join (keeps keep m ss) a.counters μ d a.counters a.room → Joins lent.plan t 0 m bodies a.counters μ → Opens (done d) a
-      not_opened : (g : ℕ) (a : Opening) → a.ground ≡ g → 0 < g → a.plan ≡ plan → a.counters ≡ counters → a.room ≡ room → Opens (stop g) a
+      not_opened : (g : ℕ) (a : Opening) → a.refusal ≡ g → 0 < g → a.plan ≡ plan → a.counters ≡ counters → a.room ≡ room → Opens (stop g) a
 
     abbrev after_walk : Out → Opening
     after_walk = settled formats schema sources x keep gaps parts plan counters room
@@ -134,8 +134,8 @@ module _ (formats schema sources : List ℕ) (x : Tables) (keep gaps : Bool) (pa
               }
 
         by_test : (b f : Bool) → b ≡ f → (f ≡ true → Running lent t m ss join (keeps keep m ss) w.counters μ begun w.counters room')
-            → Opens (guard f 13 (done begun)) (cond b (record { ground = 0; plan = lent.plan; counters = w.counters; room = room' }) (refuse_with 13))
-        by_test true true e r = opens begun (record { ground = 0; plan = lent.plan; counters = w.counters; room = room' }) refl refl join μ (r refl) begins.1
+            → Opens (guard f 13 (done begun)) (cond b (record { refusal = 0; plan = lent.plan; counters = w.counters; room = room' }) (refuse_with 13))
+        by_test true true e r = opens begun (record { refusal = 0; plan = lent.plan; counters = w.counters; room = room' }) refl refl join μ (r refl) begins.1
         by_test false false e r = not_opened 13 (refuse_with 13) refl (omega arith) refl refl refl
         by_test true false e r = absurd (let z : ◌≡◌ {A = ℕ} 0 1 = cc e in omega arith)
         by_test false true e r = absurd (let z : ◌≡◌ {A = ℕ} 0 1 = cc e in omega arith)

@@ -112,20 +112,20 @@ module _ (formats schema sources : List ℕ) (x : Tables) (keep gaps : Bool) (pa
     counters_are : a.counters ≡ walk.counters
     room_is : a.room ≡ apply lent.plan parts walk.log room
 
-  settled_is : (settled formats schema sources x keep gaps parts plan counters room walk).ground ≡ 0 → Settled (settled formats schema sources x keep gaps parts plan counters room walk)
+  settled_is : (settled formats schema sources x keep gaps parts plan counters room walk).refusal ≡ 0 → Settled (settled formats schema sources x keep gaps parts plan counters room walk)
   unfolding settled
   settled_is = go (eqb walk.ans 0) refl (parts_hold lent.plan walk.counters parts) refl
     where
       go : (a : Bool) → eqb walk.ans 0 ≡ a → (b : Bool) → parts_hold lent.plan walk.counters parts ≡ b
-          → (cond a (cond b (record { ground = 0; plan = lent.plan; counters = walk.counters; room = apply lent.plan parts walk.log room }) (refused formats schema sources x keep gaps parts plan counters room 13))
-          (refused formats schema sources x keep gaps parts plan counters room walk.ans)).ground ≡ 0
-          → Settled (cond a (cond b (record { ground = 0; plan = lent.plan; counters = walk.counters; room = apply lent.plan parts walk.log room }) (refused formats schema sources x keep gaps parts plan counters room 13))
+          → (cond a (cond b (record { refusal = 0; plan = lent.plan; counters = walk.counters; room = apply lent.plan parts walk.log room }) (refused formats schema sources x keep gaps parts plan counters room 13))
+          (refused formats schema sources x keep gaps parts plan counters room walk.ans)).refusal ≡ 0
+          → Settled (cond a (cond b (record { refusal = 0; plan = lent.plan; counters = walk.counters; room = apply lent.plan parts walk.log room }) (refused formats schema sources x keep gaps parts plan counters room 13))
           (refused formats schema sources x keep gaps parts plan counters room walk.ans))
       go true e true f h = record { no_ground = eqb-true _ _ e; holds = f; counters_are = refl; room_is = refl }
       go true e false f h = absurd (omega arith)
       go false e b f h = absurd (eqb-false _ _ e h)
 
-  module _ (accepted : answer.ground ≡ 0) where
+  module _ (accepted : answer.refusal ≡ 0) where
     passed : (length room ≤ ceiling) × (sources_ground formats schema x sources ≡ 0) × (room_placed formats schema sources x keep gaps parts plan counters room ≡ true)
     passed = tests formats schema sources x keep gaps parts plan counters room accepted
 

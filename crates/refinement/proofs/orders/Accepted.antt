@@ -37,24 +37,24 @@ module _ (x : Lent) (counters room : List ℕ) where
     pub counters_are : a.counters ≡ w.counters
     pub room_is : a.room ≡ apply x.plan x.parts w.log room
 
-  settled_is : (w : Out) → (settled x counters room w).ground ≡ 0 → Settled w (settled x counters room w)
+  settled_is : (w : Out) → (settled x counters room w).refusal ≡ 0 → Settled w (settled x counters room w)
   unfolding settled
   settled_is w = go (eqb w.ans 0) refl (parts_within x.plan x.parts (length room)) refl (parts_hold x.plan w.counters x.parts) refl
     where
       go : (a : Bool) → eqb w.ans 0 ≡ a → (b : Bool) → parts_within x.plan x.parts (length room) ≡ b → (c : Bool) → parts_hold x.plan w.counters x.parts ≡ c
-          → (cond a (cond b (cond c (record { ground = 0; counters = w.counters; room = apply x.plan x.parts w.log room }) (refused x counters room 13)) (refused x counters room 14)) (refused x counters room w.ans)).ground ≡ 0
-          → Settled w (cond a (cond b (cond c (record { ground = 0; counters = w.counters; room = apply x.plan x.parts w.log room }) (refused x counters room 13)) (refused x counters room 14)) (refused x counters room w.ans))
+          → (cond a (cond b (cond c (record { refusal = 0; counters = w.counters; room = apply x.plan x.parts w.log room }) (refused x counters room 13)) (refused x counters room 14)) (refused x counters room w.ans)).refusal ≡ 0
+          → Settled w (cond a (cond b (cond c (record { refusal = 0; counters = w.counters; room = apply x.plan x.parts w.log room }) (refused x counters room 13)) (refused x counters room 14)) (refused x counters room w.ans))
       go true e true f true g h = record { no_ground = eqb-true _ _ e; within = f; holds = g; counters_are = refl; room_is = refl }
       go true e true f false g h = absurd (omega arith)
       go true e false f c g h = absurd (omega arith)
       go false e b f c g h = absurd (eqb-false _ _ e h)
 
   -- the tests before it
-  past : (b : Bool) (w : Out) (a : After) (g : ℕ) → 0 < g → (a.ground ≡ 0 → Settled w a) → (cond b a (refused x counters room g)).ground ≡ 0 → Settled w (cond b a (refused x counters room g))
+  past : (b : Bool) (w : Out) (a : After) (g : ℕ) → 0 < g → (a.refusal ≡ 0 → Settled w a) → (cond b a (refused x counters room g)).refusal ≡ 0 → Settled w (cond b a (refused x counters room g))
   past true w a g p f h = f h
   past false w a g p f h = absurd (omega arith)
 
-  pub accepted : (o : Call) → (ordered x counters room o).ground ≡ 0 → Settled (walk_of x counters o) (ordered x counters room o)
+  pub accepted : (o : Call) → (ordered x counters room o).refusal ≡ 0 → Settled (walk_of x counters o) (ordered x counters room o)
   unfolding copy_order null_order
   accepted (copy s a e) =
       past (eqb (length counters) 96) _ _ 14 (omega arith)
@@ -62,7 +62,7 @@ module _ (x : Lent) (counters room : List ℕ) where
       (past (ltb s (source_count x.plan)) _ _ 1 (omega arith) (past (leb a e && leb e (source_length x s)) _ _ 2 (omega arith) (settled_is _))))
   accepted (nulls n) = past (eqb (length counters) 96) _ _ 14 (omega arith) (past (walkable x.plan (length room)) _ _ 14 (omega arith) (kept (eqb (keeps_of x.plan 0) 0) _ _ (settled_is _)))
     where
-      kept : (b : Bool) (w : Out) (a : After) → (a.ground ≡ 0 → Settled w a) → (cond b (refused x counters room 3) a).ground ≡ 0 → Settled w (cond b (refused x counters room 3) a)
+      kept : (b : Bool) (w : Out) (a : After) → (a.refusal ≡ 0 → Settled w a) → (cond b (refused x counters room 3) a).refusal ≡ 0 → Settled w (cond b (refused x counters room 3) a)
       kept true w a f h = absurd (omega arith)
       kept false w a f h = f h
 
@@ -73,7 +73,7 @@ module _ (x : Lent) (counters room : List ℕ) where
     pub sound : plan_sound x.plan ≡ true
 
   walked_by : (b d : Bool) (a : After) → eqb (length counters) 96 ≡ b → walkable x.plan (length room) ≡ d
-      → (cond b (cond d a (refused x counters room 14)) (refused x counters room 14)).ground ≡ 0 → Walked
+      → (cond b (cond d a (refused x counters room 14)) (refused x counters room 14)).refusal ≡ 0 → Walked
   unfolding walkable
   walked_by true true a e f h =
       let l = leb-true (length room) ceiling (and_left (leb (length room) ceiling) (plan_sound x.plan) f) in
@@ -81,7 +81,7 @@ module _ (x : Lent) (counters room : List ℕ) where
   walked_by true false a e f h = absurd (omega arith)
   walked_by false d a e f h = absurd (omega arith)
 
-  pub walked : (o : Call) → (ordered x counters room o).ground ≡ 0 → Walked
+  pub walked : (o : Call) → (ordered x counters room o).refusal ≡ 0 → Walked
   unfolding copy_order null_order
   walked (copy s a e) h = walked_by (eqb (length counters) 96) (walkable x.plan (length room)) _ refl refl h
   walked (nulls n) h = walked_by (eqb (length counters) 96) (walkable x.plan (length room)) _ refl refl h
@@ -90,7 +90,7 @@ module _ (x : Lent) (counters room : List ℕ) where
 
 module _ (x : Lent) (counters room : List ℕ) where
   abbrev Kept : After → Type 0
-  Kept a = (a.ground ≡ 0 → ⊥) → (a.counters ≡ counters) × (a.room ≡ room)
+  Kept a = (a.refusal ≡ 0 → ⊥) → (a.counters ≡ counters) × (a.room ≡ room)
 
   kept_refused : (g : ℕ) → Kept (refused x counters room g)
   kept_refused g h = (refl, refl)
@@ -107,7 +107,7 @@ module _ (x : Lent) (counters room : List ℕ) where
       (kept_refused o.ans)
 
   -- REFUSED, AN ORDER CHANGES NOTHING
-  pub order_keeps : (o : Call) → ((ordered x counters room o).ground ≡ 0 → ⊥) → ((ordered x counters room o).counters ≡ counters) × ((ordered x counters room o).room ≡ room)
+  pub order_keeps : (o : Call) → ((ordered x counters room o).refusal ≡ 0 → ⊥) → ((ordered x counters room o).counters ≡ counters) × ((ordered x counters room o).room ≡ room)
   unfolding copy_order null_order
   order_keeps (copy s a e) =
       kept_if (eqb (length counters) 96) _ _
@@ -137,9 +137,9 @@ module _ (x : Lent) (sound : plan_sound x.plan ≡ true) where
 
   -- counters stay counters
   pub fine_order : (counters room : List ℕ) (o : Call) → Fine counters → Fine (ordered x counters room o).counters
-  fine_order counters room o f = go (eqb (ordered x counters room o).ground 0) refl
+  fine_order counters room o f = go (eqb (ordered x counters room o).refusal 0) refl
     where
-      go : (b : Bool) → eqb (ordered x counters room o).ground 0 ≡ b → Fine (ordered x counters room o).counters
+      go : (b : Bool) → eqb (ordered x counters room o).refusal 0 ≡ b → Fine (ordered x counters room o).counters
       go true e =
           let s = accepted x counters room o (eqb-true _ _ e) in
           subst Fine (sym s.counters_are) ((walk_adds counters o).added f s.no_ground).fine
@@ -152,7 +152,7 @@ module _ (x : Lent) (sound : plan_sound x.plan ≡ true) where
 
 -- ---- ANY PLAN, parts, sources, counters and room whatsoever, the answer being 0
 
-module _ (x : Lent) (body : AllBelow 256 x.body) (counters room : List ℕ) (top : Counters counters) (o : Call) (answer : (ordered x counters room o).ground ≡ 0) where
+module _ (x : Lent) (body : AllBelow 256 x.body) (counters room : List ℕ) (top : Counters counters) (o : Call) (answer : (ordered x counters room o).refusal ≡ 0) where
   abbrev walk : Out
   walk = walk_of x counters o
 

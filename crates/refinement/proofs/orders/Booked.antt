@@ -147,12 +147,12 @@ module _ (x : Lent) (t : Ty) (m : ℕ) (ss : ℕ → Column t) (join : Joined x 
     pub answer_is : (o : Call) → map_try (held t) (answer_in plan parts t m ss o d) ≡ answer_room plan parts t keep m ss o (held t d)
     answer_is o = both_test (one_order t m ss (lawful x t m ss join) (obeys x t m ss join) keep o d run.state) (call_same o)
 
-    ground_by_lem : {o : Call} {p : Try (Destination t)} {a : After} → Answers x t m ss join keep c0 μ0 o d counters room p a → a.ground ≡ ground_of (map_try (held t) p)
+    ground_by_lem : {o : Call} {p : Try (Destination t)} {a : After} → Answers x t m ss join keep c0 μ0 o d counters room p a → a.refusal ≡ ground_of (map_try (held t) p)
     ground_by_lem (made d' a e r k) = e
     ground_by_lem (not_made g a e l c s) = e
 
     -- .. IS THE GROUND THAT THE ENTRY POINTS ANSWER
-    pub ground_is : (o : Call) → (ordered x counters room o).ground ≡ ground_of (answer_room plan parts t keep m ss o (held t d))
+    pub ground_is : (o : Call) → (ordered x counters room o).refusal ≡ ground_of (answer_room plan parts t keep m ss o (held t d))
     ground_is o = ground_by_lem (order_step_lem x t m ss join keep c0 μ0 o d counters room run) ∙ ap ground_of (answer_is o)
 
   -- ---- any list of calls
@@ -205,7 +205,7 @@ module _ (x : Lent) (t : Ty) (m : ℕ) (ss : ℕ → Column t) (join : Joined x 
     where
       go : {p : Try (Destination t)} {a : After} → Answers x t m ss join keep c0 μ0 o d counters room p a
           → ((d' : Destination t) (c r : List ℕ) → Runs d' c r → book_by plan parts t keep m ss os (grounds_of x c r os) ≡ book_in plan parts t m ss keep os d')
-          → ◌≡◌ {A = List Row} (cond (eqb a.ground 0) (entered t keep m ss o) [] ++ book_by plan parts t keep m ss os (grounds_of x a.counters a.room os))
+          → ◌≡◌ {A = List Row} (cond (eqb a.refusal 0) (entered t keep m ss o) [] ++ book_by plan parts t keep m ss os (grounds_of x a.counters a.room os))
           (elim p [ done d' ↦ entered t keep m ss o ++ book_in plan parts t m ss keep os d' | stop g ↦ book_in plan parts t m ss keep os d ])
-      go (made d' a e r did) f = rw (eq-eqb a.ground 0 e) (ap (entered t keep m ss o ++◌) (f d' a.counters a.room r))
-      go (not_made g a e l c s) f = rw (ne_eqb a.ground 0 (λ z. omega arith), c, s) (f d counters room run)
+      go (made d' a e r did) f = rw (eq-eqb a.refusal 0 e) (ap (entered t keep m ss o ++◌) (f d' a.counters a.room r))
+      go (not_made g a e l c s) f = rw (ne_eqb a.refusal 0 (λ z. omega arith), c, s) (f d counters room run)

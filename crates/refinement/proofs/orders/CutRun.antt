@@ -49,11 +49,11 @@ module _ (x : Lent) (t : Ty) (m : ℕ) (ss : ℕ → Column t) (join : Joined x 
     pub carried : answer_in x.plan x.parts t m ss o d ≡ done reached
     pub counted : answer_room x.plan x.parts t keep m ss o (held t d) ≡ done (held t reached)
 
-  carried_as : {p : Try (Destination t)} {a : After} → Answers x t m ss join keep c0 μ0 o d counters room p a → a.ground ≡ 0 → answer_in x.plan x.parts t m ss o d ≡ p → Carried
+  carried_as : {p : Try (Destination t)} {a : After} → Answers x t m ss join keep c0 μ0 o d counters room p a → a.refusal ≡ 0 → answer_in x.plan x.parts t m ss o d ≡ p → Carried
   carried_as (made e a z r k) h q =
       record { reached = e; carried = q; counted = sym (answer_is x t m ss join keep c0 μ0 d counters room run o) ∙ ap (map_try (held t)) q }
   carried_as (not_made g a z l c s) h q = absurd (omega arith)
 
   -- A CALL THAT IS ANSWERED 0 IS CARRIED OUT
-  pub carried_out_lem : (ordered x counters room o).ground ≡ 0 → Carried
+  pub carried_out_lem : (ordered x counters room o).refusal ≡ 0 → Carried
   carried_out_lem h = carried_as (order_step_lem x t m ss join keep c0 μ0 o d counters room run) h refl

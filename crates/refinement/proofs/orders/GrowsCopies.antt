@@ -20,9 +20,9 @@ use Rattle.utils.specs.declared.Extended.TheVariants.{Fits, Over, Falls}
 use Rattle.utils.proofs.Pieces.{length_numbers}
 use Rattle.utils.specs.primitive.Primitive.{rebased}
 use Rattle.utils.specs.byte_view.View.{reviewed_one, reviewed}
-use Rattle.run_ends_lem.specs.declared.Runs.{Runs}
-use Rattle.run_ends_lem.specs.declared.Runs.TheVariants.{Range, None}
-use Rattle.run_ends_lem.proofs.Laws.{length_clipped}
+use Rattle.run_ends.specs.declared.Runs.{Runs}
+use Rattle.run_ends.specs.declared.Runs.TheVariants.{Range, None}
+use Rattle.run_ends.proofs.Laws.{length_clipped}
 use Rattle.walk.specs.State.{Join, code_of, dictionary_of, end_of, keeps_of, base_of, bytes_of, rows, bytes, gap, place, far, add_rows, set_bytes, end_gap}
 use Rattle.walk.specs.Log.{put, Out, fail, done, wrote, next}
 use Rattle.refinement.proofs.walk_is_model.Counters.{bytes_set}

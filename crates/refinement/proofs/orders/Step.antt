@@ -91,8 +91,8 @@ module _ (x : Lent) (t : Ty) (m : ℕ) (ss : ℕ → Column t) where
 
     -- an answer and what the order comes to: carried out, or refused with everything as it was
     pub data Answers (o : Call) (d : Destination t) (counters room : List ℕ) : Try (Destination t) → After → Type 0 where
-      made : (d' : Destination t) (a : After) → a.ground ≡ 0 → Running d' a.counters a.room → Did t m ss (lawful join) (obeys join) keep o d d' → Answers o d counters room (done d') a
-      not_made : (g : ℕ) (a : After) → a.ground ≡ g → 0 < g → a.counters ≡ counters → a.room ≡ room → Answers o d counters room (stop g) a
+      made : (d' : Destination t) (a : After) → a.refusal ≡ 0 → Running d' a.counters a.room → Did t m ss (lawful join) (obeys join) keep o d d' → Answers o d counters room (done d') a
+      not_made : (g : ℕ) (a : After) → a.refusal ≡ g → 0 < g → a.counters ≡ counters → a.room ≡ room → Answers o d counters room (stop g) a
 
     walks : (d : Destination t) (counters room : List ℕ) → Running d counters room → walkable x.plan (length room) ≡ true
     unfolding walkable
@@ -214,8 +214,8 @@ module _ (x : Lent) (t : Ty) (m : ℕ) (ss : ℕ → Column t) where
               }
 
         by_test : (b f : Bool) → b ≡ f → (f ≡ true → Running d' w.counters room')
-            → Answered (guard f 13 (done d')) (cond b (record { ground = 0; counters = w.counters; room = room' }) (refused x counters room 13))
-        by_test true true e r = made d' (record { ground = 0; counters = w.counters; room = room' }) refl (r refl) did
+            → Answered (guard f 13 (done d')) (cond b (record { refusal = 0; counters = w.counters; room = room' }) (refused x counters room 13))
+        by_test true true e r = made d' (record { refusal = 0; counters = w.counters; room = room' }) refl (r refl) did
         by_test false false e r = refuse 13 (omega arith)
         by_test true false e r = absurd (let z : ◌≡◌ {A = ℕ} 0 1 = cc e in omega arith)
         by_test false true e r = absurd (let z : ◌≡◌ {A = ℕ} 0 1 = cc e in omega arith)

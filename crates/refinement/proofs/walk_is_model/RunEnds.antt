@@ -14,7 +14,7 @@ use Rattle.number.proofs.Laws.{length_encode}
 use Rattle.columnar.specs.Array.{item, read_with}
 use Rattle.columnar.specs.RunEnd.{RunEnd, start_of}
 use Rattle.columnar.specs.Reading.{Column, masks, slot_at}
-use Rattle.run_ends_lem.specs.declared.Runs.TheVariants.{Range}
+use Rattle.run_ends.specs.declared.Runs.TheVariants.{Range}
 use Rattle.model.specs.Try.{done, then, guard}
 use Rattle.model.specs.Mutable.{freeze_node, nulls_node}
 use Rattle.model.specs.Ordered.{null_row}

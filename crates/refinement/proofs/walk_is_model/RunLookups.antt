@@ -10,11 +10,11 @@ use lib.Dec.{ltb}
 use borrow.Author.Tests.{lt-ltb, le-ltb}
 use Rattle.number.specs.Number.{entry, encode}
 use Rattle.columnar.specs.RunEnd.{first_above, start_of}
-use Rattle.run_ends_lem.specs.Lookup.{scan, first, quarter, Climbs, found_at, found_run, format_run, spanned, runs_of, runs_between, shortened}
-use Rattle.run_ends_lem.specs.declared.Runs.{Runs}
-use Rattle.run_ends_lem.specs.declared.Runs.TheVariants.{Range}
-use Rattle.run_ends_lem.proofs.Search.{first_is, quarter_first}
-use Rattle.run_ends_lem.proofs.Laws.{short_cut}
+use Rattle.run_ends.specs.Lookup.{scan, first, quarter, Climbs, found_at, found_run, format_run, spanned, runs_of, runs_between, shortened}
+use Rattle.run_ends.specs.declared.Runs.{Runs}
+use Rattle.run_ends.specs.declared.Runs.TheVariants.{Range}
+use Rattle.run_ends.proofs.Search.{first_is, quarter_first}
+use Rattle.run_ends.proofs.Laws.{short_cut}
 use Rattle.model.proofs.Ends.{First, Last, Many, in_order_lem, last_run}
 use Rattle.model.proofs.Names.{clipped}
 

@@ -18,7 +18,7 @@ use Rattle.refinement.specs.orders.Order.{Lent, join_of, source_count}
 
 -- the tables as they are left; ground: 0, or the number of the refusal
 pub record Finished : Type 0 where
-  pub ground : ℕ
+  pub refusal : ℕ
   pub lengths : List ℕ
   pub nulls : List ℕ
   pub places : List ℕ
@@ -123,7 +123,7 @@ module _ (x : Lent) (buffers counters room : List ℕ) (base : ℕ) where
 
   module _ (lengths nulls places names : List ℕ) where
     abbrev pub refused : ℕ → Finished
-    refused g = record { ground = g; lengths = lengths; nulls = nulls; places = places; buffers = names }
+    refused g = record { refusal = g; lengths = lengths; nulls = nulls; places = places; buffers = names }
 
     -- each of the lengths that the finished array takes
     unfoldable pub tables_fit : Bool
@@ -146,5 +146,5 @@ module _ (x : Lent) (buffers counters room : List ℕ) (base : ℕ) where
     finishing =
         cond sizes_fit
         (cond (every kept_in (nodes_of x.plan))
-        (cond (room_fits && tables_fit) (record { ground = 0; lengths = length_table; nulls = null_table; places = place_table; buffers = buffer_table }) (refused 14))
+        (cond (room_fits && tables_fit) (record { refusal = 0; lengths = length_table; nulls = null_table; places = place_table; buffers = buffer_table }) (refused 14))
         (refused 12)) (refused 9)

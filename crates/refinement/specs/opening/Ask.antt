@@ -10,7 +10,7 @@ use Rattle.refinement.specs.opening.Open.{open_walk_of}
 
 -- ground: 0, or the number of the refusal
 pub record Asked : Type 0 where
-  pub ground : ℕ
+  pub refusal : ℕ
   pub plan : List ℕ
 
 -- THE QUESTION: 9, 10, 11, 12 as at the opening, 14 where the plan is not of a join's length; else the plan, which says
@@ -18,8 +18,8 @@ pub record Asked : Type 0 where
 unfoldable pub asked : List ℕ → List ℕ → List ℕ → Tables → Bool → Bool → List ℕ → Asked
 asked formats schema sources x keep gaps plan =
     cond (eqb (sources_ground formats schema x sources) 0)
-    (cond (eqb (length plan) 872) (record { ground = 0; plan = planned formats schema x sources keep gaps }) (record { ground = 14; plan = plan }))
-    (record { ground = sources_ground formats schema x sources; plan = plan })
+    (cond (eqb (length plan) 872) (record { refusal = 0; plan = planned formats schema x sources keep gaps }) (record { refusal = 14; plan = plan }))
+    (record { refusal = sources_ground formats schema x sources; plan = plan })
 
 -- THE WALK OF AN OPENING, with no part asked, by the plan that the question left: 6 and 8; 12 where it can't be carried out with that plan,
 -- as where it is for more than 16 sources or none that a walk stays in; 14 where the counters are not those of a join

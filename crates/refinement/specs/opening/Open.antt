@@ -17,7 +17,7 @@ use Rattle.refinement.specs.orders.Order.{Lent, join_of, source_count}
 
 -- ground: 0, or the number of the refusal
 pub record Opening : Type 0 where
-  pub ground : ℕ
+  pub refusal : ℕ
   pub plan : List ℕ
   pub counters : List ℕ
   pub room : List ℕ
@@ -81,13 +81,13 @@ module _ (formats schema sources : List ℕ) (x : Tables) (keep gaps : Bool) (pa
   module _ (plan counters room : List ℕ) where
     -- "State and every byte stay."
     abbrev pub refused : ℕ → Opening
-    refused g = record { ground = g; plan = plan; counters = counters; room = room }
+    refused g = record { refusal = g; plan = plan; counters = counters; room = room }
 
     -- "and 13 last"
     unfoldable pub settled : Out → Opening
     settled o =
         cond (eqb o.ans 0)
-        (cond (parts_hold opened.plan o.counters parts) (record { ground = 0; plan = opened.plan; counters = o.counters; room = apply opened.plan parts o.log room }) (refused 13))
+        (cond (parts_hold opened.plan o.counters parts) (record { refusal = 0; plan = opened.plan; counters = o.counters; room = apply opened.plan parts o.log room }) (refused 13))
         (refused o.ans)
 
     -- plan and counters are of a join's lengths, and none of what ground 14 says

@@ -12,17 +12,17 @@ use Rattle.refinement.specs.orders.Order.{Lent, join_of, source_count, source_le
 
 -- ground: 0, or the number of the refusal
 pub record Measured : Type 0 where
-  pub ground : ℕ
+  pub refusal : ℕ
   pub counters : List ℕ
 
 module _ (counters : List ℕ) where
   -- the counters stay
   abbrev pub unmeasured : ℕ → Measured
-  unmeasured g = record { ground = g; counters = counters }
+  unmeasured g = record { refusal = g; counters = counters }
 
   -- a walk, with no part asked and no byte written
   unfoldable pub measured : Out → Measured
-  measured o = cond (eqb o.ans 0) (record { ground = 0; counters = o.counters }) (unmeasured o.ans)
+  measured o = cond (eqb o.ans 0) (record { refusal = 0; counters = o.counters }) (unmeasured o.ans)
 
   module _ (x : Lent) where
     -- `copyOrder` without 13 and 14 of the parts

@@ -11,7 +11,7 @@ use Rattle.refinement.specs.orders.Sound.{walkable}
 
 -- ground: 0, or the number of the refusal
 pub record After : Type 0 where
-  pub ground : ℕ
+  pub refusal : ℕ
   pub counters : List ℕ
   pub room : List ℕ
 
@@ -44,14 +44,14 @@ source_length x s = get_or x.lengths (2 * get_or x.sources (2 * s) 0) 0
 module _ (x : Lent) (counters room : List ℕ) where
   -- "State and every byte stay."
   abbrev pub refused : ℕ → After
-  refused g = record { ground = g; counters = counters; room = room }
+  refused g = record { refusal = g; counters = counters; room = room }
 
   -- a walk without a ground is made where every part lies in the room, 14, and holds its bytes after the call, "13 last"
   unfoldable pub settled : Out → After
   settled o =
       cond (eqb o.ans 0)
       (cond (parts_within x.plan x.parts (length room))
-      (cond (parts_hold x.plan o.counters x.parts) (record { ground = 0; counters = o.counters; room = apply x.plan x.parts o.log room }) (refused 13))
+      (cond (parts_hold x.plan o.counters x.parts) (record { refusal = 0; counters = o.counters; room = apply x.plan x.parts o.log room }) (refused 13))
       (refused 14)) (refused o.ans)
 
   -- 14 where the counters are not those of a join, or the plan or the room is none that an order can be walked in
@@ -75,10 +75,10 @@ module _ (x : Lent) (counters room : List ℕ) where
 
 -- ANY LIST OF CALLS, each getting counters and room as the last one left them
 unfoldable pub ordered_all : Lent → List ℕ → List ℕ → List Call → After
-ordered_all x counters room [] = record { ground = 0; counters = counters; room = room }
+ordered_all x counters room [] = record { refusal = 0; counters = counters; room = room }
 ordered_all x counters room (o ∷ os) = ordered_all x (ordered x counters room o).counters (ordered x counters room o).room os
 
 -- what each of them is answered
 unfoldable pub grounds_of : Lent → List ℕ → List ℕ → List Call → List ℕ
 grounds_of x counters room [] = []
-grounds_of x counters room (o ∷ os) = (ordered x counters room o).ground ∷ grounds_of x (ordered x counters room o).counters (ordered x counters room o).room os
+grounds_of x counters room (o ∷ os) = (ordered x counters room o).refusal ∷ grounds_of x (ordered x counters room o).counters (ordered x counters room o).room os

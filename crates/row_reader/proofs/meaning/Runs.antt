@@ -17,9 +17,9 @@ use Rattle.columnar.specs.Array.{Array, item}
 use Rattle.columnar.specs.RunEnd.{end_of, first_above, start_of}
 use Rattle.columnar.proofs.FirstAbove.{first_same, first_below}
 use Rattle.columnar.proofs.Items.{item_cut, length_cut}
-use Rattle.run_ends_lem.specs.Lookup as lookup
-use Rattle.run_ends_lem.specs.Lookup.{scan, left_of, Climbs, Covers, Rising}
-use Rattle.run_ends_lem.proofs.Left.{Left}
+use Rattle.run_ends.specs.Lookup as lookup
+use Rattle.run_ends.specs.Lookup.{scan, left_of, Climbs, Covers, Rising}
+use Rattle.run_ends.proofs.Left.{Left}
 use Rattle.slot_reader.specs.run.Rows.{is_width, row_run}
 use Rattle.slot_reader.specs.declared.run.RowRun.TheVariants as answer
 use Rattle.slot_reader.proofs.run.Laws.{row_left}

@@ -15,11 +15,11 @@ use Rattle.columns.specs.Grounds.{column_ground}
 use Rattle.array_data.specs.node_words.Words.{planted}
 use Rattle.row_reader.specs.column_reader.Column.{opened_tree}
 use Rattle.row_reader.proofs.column_reader.Laws.{tree_accepted}
-use Rattle.run_ends_lem.specs.declared.PhysicalRun.{PhysicalRun}
+use Rattle.run_ends.specs.declared.PhysicalRun.{PhysicalRun}
 use Rattle.slot_reader.specs.declared.run.RowRun.{RowRun}
 use Rattle.slot_reader.specs.declared.run.RowRun.TheVariants as run
 use Rattle.row_reader.specs.Walk.{run_at}
-use Rattle.row_reader.specs.runs.Answers.{read_run, ground, numbers}
+use Rattle.row_reader.specs.runs.Answers.{read_run, refusal, numbers}
 
 -- no run is read from data buffers
 no_buffers : (tree lengths places buffers body : List ℕ) (first r : ℕ) → run_at tree (column lengths places [] body first) r ≡ run_at tree (column lengths places buffers body first) r
@@ -44,10 +44,10 @@ module _ (formats schema lengths places buffers body : List ℕ) (first n g : �
 -- ---- the answer
 
 module _ (found : RowRun) (answer : List ℕ) where
-  pub no_room : (k : PhysicalRun) (left : ℕ) → (length answer ≡ 2 → ⊥) → found ≡ run.Run k left → (14 ≡ ground found answer) × (answer ≡ numbers found answer)
+  pub no_room : (k : PhysicalRun) (left : ℕ) → (length answer ≡ 2 → ⊥) → found ≡ run.Run k left → (14 ≡ refusal found answer) × (answer ≡ numbers found answer)
   no_room k left h e = rw e (rw (ne_eqb (length answer) 2 h), rw (ne_eqb (length answer) 2 h))
 
-  pub refused_run : (g : ℕ) → found ≡ run.Refused g → (g ≡ ground found answer) × (answer ≡ numbers found answer)
+  pub refused_run : (g : ℕ) → found ≡ run.Refused g → (g ≡ refusal found answer) × (answer ≡ numbers found answer)
   refused_run g e = rw e (refl, same (eqb (length answer) 2))
     where
       same : (b : Bool) → answer ≡ cond b answer answer
@@ -61,5 +61,5 @@ both_set (x ∷ y ∷ []) a b h = refl
 both_set (x ∷ y ∷ z ∷ s) a b h = absurd (omega arith)
 
 pub found_run_lem : (found : RowRun) (answer : List ℕ) (k : PhysicalRun) (left : ℕ) → length answer ≡ 2 → found ≡ run.Run k left
-    → (0 ≡ ground found answer) × (set (set answer 0 k.0) 1 left ≡ numbers found answer)
+    → (0 ≡ refusal found answer) × (set (set answer 0 k.0) 1 left ≡ numbers found answer)
 found_run_lem found answer k left h e = rw e (rw (eq-eqb (length answer) 2 h), both_set answer k.0 left h ∙ rw (eq-eqb (length answer) 2 h))

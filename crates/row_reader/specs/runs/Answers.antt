@@ -22,9 +22,9 @@ run_numbers (run.Run k left) old = k.0 ∷ left ∷ []
 run_numbers (run.Refused g) old = old
 
 -- .. then 14 where the answer has not two numbers, and then it is left as it was
-abbrev pub ground : RowRun → List ℕ → ℕ
-ground (run.Run k left) answer = cond (eqb (length answer) 2) 0 14
-ground (run.Refused g) answer = g
+abbrev pub refusal : RowRun → List ℕ → ℕ
+refusal (run.Run k left) answer = cond (eqb (length answer) 2) 0 14
+refusal (run.Refused g) answer = g
 
 abbrev pub numbers : RowRun → List ℕ → List ℕ
 numbers found answer = cond (eqb (length answer) 2) (run_numbers found answer) answer

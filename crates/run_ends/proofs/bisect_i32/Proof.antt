@@ -3,9 +3,9 @@ use mathlib.Core.Path.{ap, ◌∙◌}
 use Prim.Native.Nat.{ℕ, ◌+◌, ◌/◌}
 use native.Mathlib.Omega.{arith}
 use Rattle.number.specs.Number.{entry}
-use Rattle.run_ends_lem.proofs.Search.{Quartering, begin, quarters, go_on_lem, stop}
-use Rattle.run_ends_lem.proofs.bisect_i32.Statement.{statement}
-use Rattle.run_ends_lem.proofs.bisect_i32.Tie as tie
+use Rattle.run_ends.proofs.Search.{Quartering, begin, quarters, go_on_lem, stop}
+use Rattle.run_ends.proofs.bisect_i32.Statement.{statement}
+use Rattle.run_ends.proofs.bisect_i32.Tie as tie
 
 abbrev invariant-loop : tie.invariant-loop
 invariant-loop body from n row base₀ size₀ base size = Quartering (entry 4 body from) row.0 n base size

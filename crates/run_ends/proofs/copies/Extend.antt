@@ -11,12 +11,12 @@ use lib.ListN.{drop}
 use lib.Dec.{ltb, leb}
 use borrow.Author.Tests.{ltb-true, ltb-false, leb-true, leb-false, lt-ltb, le-ltb, le-leb, lt-leb}
 use Rattle.number.specs.Number.{number, entry, encode}
-use Rattle.run_ends_lem.specs.Lookup.{first_above, Climbs, Covers, format_run, Rising, runs_between}
-use Rattle.run_ends_lem.specs.Clip.{clip, clipped}
-use Rattle.run_ends_lem.specs.copies.Extend.{ValuesRange, none, some, Extended, ok, overflow, panic, branches, extend_loop, extend_arrays, added}
-use Rattle.run_ends_lem.specs.declared.Runs.{Runs}
-use Rattle.run_ends_lem.specs.declared.Runs.TheVariants.{Range, None}
-use Rattle.run_ends_lem.proofs.Search.{First, first_is, climbs_lt, climbs_le, covers_lt}
+use Rattle.run_ends.specs.Lookup.{first_above, Climbs, Covers, format_run, Rising, runs_between}
+use Rattle.run_ends.specs.Clip.{clip, clipped}
+use Rattle.run_ends.specs.copies.Extend.{ValuesRange, none, some, Extended, ok, overflow, panic, branches, extend_loop, extend_arrays, added}
+use Rattle.run_ends.specs.declared.Runs.{Runs}
+use Rattle.run_ends.specs.declared.Runs.TheVariants.{Range, None}
+use Rattle.run_ends.proofs.Search.{First, first_is, climbs_lt, climbs_le, covers_lt}
 
 -- ---- the three branches
 

@@ -6,9 +6,9 @@ use native.Mathlib.Nat.{add-zero}
 use native.Mathlib.Omega.{arith}
 use lib.Dec.{ltb}
 use borrow.Author.Tests.{ltb-true, ltb-false, lt-ltb, le-ltb}
-use Rattle.run_ends_lem.specs.Lookup.{first, Climbs, Covers}
-use Rattle.run_ends_lem.specs.Clip.{clipped_end, followed, Ending}
-use Rattle.run_ends_lem.proofs.Search.{First, first_is, first_of_lem, climbs_lt, climbs_le, covers_lt}
+use Rattle.run_ends.specs.Lookup.{first, Climbs, Covers}
+use Rattle.run_ends.specs.Clip.{clipped_end, followed, Ending}
+use Rattle.run_ends.proofs.Search.{First, first_is, first_of_lem, climbs_lt, climbs_le, covers_lt}
 
 -- ---- run ends behind others
 

@@ -3,8 +3,8 @@ use mathlib.Core.Path.{◌≡◌, refl}
 use Prim.Native.Nat.{ℕ, ◌+◌, ◌*◌}
 use mathlib.Core.List.{List, ◌++◌}
 use Rattle.number.specs.Number.{number, encode}
-use Rattle.run_ends_lem.specs.Clip.{clipped}
-use Rattle.run_ends_lem.specs.copies.Extend.{ok, some, overflow, branches, extend_loop, extend_arrays}
+use Rattle.run_ends.specs.Clip.{clipped}
+use Rattle.run_ends.specs.copies.Extend.{ok, some, overflow, branches, extend_loop, extend_arrays}
 
 -- the run ends 2, 5, 9
 unfoldable ends : ℕ → List ℕ

@@ -13,12 +13,12 @@ use lib.Dec.{ltb}
 use borrow.Author.Tests.{ltb-true, ltb-false}
 use Rattle.number.specs.Number.{number, entry, encode, splice}
 use Rattle.number.proofs.Laws.{number_encode, read_write}
-use Rattle.run_ends_lem.specs.Lookup.{first, Climbs, Covers, first_above, Rising}
-use Rattle.run_ends_lem.specs.Clip.{clip, clipped_end, followed, Ending, clipped}
-use Rattle.run_ends_lem.proofs.Search.{First, first_is, first_of_lem}
-use Rattle.run_ends_lem.proofs.Laws.{length_clipped}
-use Rattle.run_ends_lem.proofs.copies.Extend.{entry_shift}
-use Rattle.run_ends_lem.proofs.copies.Joined.{ending_le, row_new, row_old, copy_ending, null_new, null_old, null_ending}
+use Rattle.run_ends.specs.Lookup.{first, Climbs, Covers, first_above, Rising}
+use Rattle.run_ends.specs.Clip.{clip, clipped_end, followed, Ending, clipped}
+use Rattle.run_ends.proofs.Search.{First, first_is, first_of_lem}
+use Rattle.run_ends.proofs.Laws.{length_clipped}
+use Rattle.run_ends.proofs.copies.Extend.{entry_shift}
+use Rattle.run_ends.proofs.copies.Joined.{ending_le, row_new, row_old, copy_ending, null_new, null_old, null_ending}
 
 -- the run of a row depends on the n ends alone
 pub first_same : (e f : ℕ → ℕ) (n x : ℕ) → ((k : ℕ) → k < n → e k ≡ f k) → first e n x ≡ first f n x

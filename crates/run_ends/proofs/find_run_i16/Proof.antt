@@ -1,8 +1,8 @@
 -- `run_ends::find_run_i16` meets its contract. Assumes nothing.
 use native.Mathlib.Omega.{arith}
-use Rattle.run_ends_lem.proofs.Laws.{looked_run, looked_past}
-use Rattle.run_ends_lem.proofs.find_run_i16.Statement.{statement}
-use Rattle.run_ends_lem.proofs.find_run_i16.Tie as tie
+use Rattle.run_ends.proofs.Laws.{looked_run, looked_past}
+use Rattle.run_ends.proofs.find_run_i16.Statement.{statement}
+use Rattle.run_ends.proofs.find_run_i16.Tie as tie
 
 bisect-i16-requires : tie.Need-bisect-i16-requires
 bisect-i16-requires c κs = omega arith

@@ -1,8 +1,8 @@
 -- `run_ends::find_run_i32` meets its contract. Assumes nothing.
 use native.Mathlib.Omega.{arith}
-use Rattle.run_ends_lem.proofs.Laws.{looked_run, looked_past}
-use Rattle.run_ends_lem.proofs.find_run_i32.Statement.{statement}
-use Rattle.run_ends_lem.proofs.find_run_i32.Tie as tie
+use Rattle.run_ends.proofs.Laws.{looked_run, looked_past}
+use Rattle.run_ends.proofs.find_run_i32.Statement.{statement}
+use Rattle.run_ends.proofs.find_run_i32.Tie as tie
 
 bisect-i32-requires : tie.Need-bisect-i32-requires
 bisect-i32-requires c κs = omega arith

@@ -1,9 +1,9 @@
 -- `run_ends::found_at` meets its contract. Assumes nothing.
 use mathlib.Core.Path.{ap, ◌∙◌}
 use borrow.Author.Tests.{lt-ltb, le-ltb}
-use Rattle.run_ends_lem.specs.declared.Found.TheVariants.{Run}
-use Rattle.run_ends_lem.proofs.found_at.Statement.{statement}
-use Rattle.run_ends_lem.proofs.found_at.Tie as tie
+use Rattle.run_ends.specs.declared.Found.TheVariants.{Run}
+use Rattle.run_ends.proofs.found_at.Statement.{statement}
+use Rattle.run_ends.proofs.found_at.Tie as tie
 
 rows-left-requires : tie.Need-rows-left-requires
 rows-left-requires c κs = tt

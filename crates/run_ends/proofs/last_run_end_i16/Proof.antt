@@ -2,9 +2,9 @@
 use mathlib.Core.Path.{◌∙◌}
 use borrow.Author.Rules.{rules}
 use native.Mathlib.Omega.{arith}
-use Rattle.run_ends_lem.proofs.Laws.{last_at}
-use Rattle.run_ends_lem.proofs.last_run_end_i16.Statement.{statement}
-use Rattle.run_ends_lem.proofs.last_run_end_i16.Tie as tie
+use Rattle.run_ends.proofs.Laws.{last_at}
+use Rattle.run_ends.proofs.last_run_end_i16.Statement.{statement}
+use Rattle.run_ends.proofs.last_run_end_i16.Tie as tie
 
 returns : tie.Need-returns
 returns c = search rules

@@ -1,8 +1,8 @@
 -- `run_ends::not_above` meets its contract. Assumes nothing.
 use native.Mathlib.Omega.{arith}
 use borrow.Author.Tests.{lt-ltb, le-ltb}
-use Rattle.run_ends_lem.proofs.not_above.Statement.{statement}
-use Rattle.run_ends_lem.proofs.not_above.Tie as tie
+use Rattle.run_ends.proofs.not_above.Statement.{statement}
+use Rattle.run_ends.proofs.not_above.Tie as tie
 
 returns : tie.Need-returns
 returns c = (simp (lt-ltb _ _ c.if1.true), omega arith)

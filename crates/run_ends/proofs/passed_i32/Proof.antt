@@ -1,7 +1,7 @@
 -- `run_ends::passed_i32` meets its contract. Assumes nothing.
 use native.Mathlib.Omega.{arith}
-use Rattle.run_ends_lem.proofs.passed_i32.Statement.{statement}
-use Rattle.run_ends_lem.proofs.passed_i32.Tie as tie
+use Rattle.run_ends.proofs.passed_i32.Statement.{statement}
+use Rattle.run_ends.proofs.passed_i32.Tie as tie
 
 add-result : tie.Need-overflow-add-result
 add-result c = omega arith

@@ -1,7 +1,7 @@
 -- `run_ends::run_end_i16` meets its contract. Assumes nothing.
 use native.Mathlib.Omega.{arith}
-use Rattle.run_ends_lem.proofs.run_end_i16.Statement.{statement}
-use Rattle.run_ends_lem.proofs.run_end_i16.Tie as tie
+use Rattle.run_ends.proofs.run_end_i16.Statement.{statement}
+use Rattle.run_ends.proofs.run_end_i16.Tie as tie
 
 mul-read-u16 : tie.Need-overflow-mul-read-u16
 mul-read-u16 c = omega arith

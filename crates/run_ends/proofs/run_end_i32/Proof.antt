@@ -1,7 +1,7 @@
 -- `run_ends::run_end_i32` meets its contract. Assumes nothing.
 use native.Mathlib.Omega.{arith}
-use Rattle.run_ends_lem.proofs.run_end_i32.Statement.{statement}
-use Rattle.run_ends_lem.proofs.run_end_i32.Tie as tie
+use Rattle.run_ends.proofs.run_end_i32.Statement.{statement}
+use Rattle.run_ends.proofs.run_end_i32.Tie as tie
 
 mul-read-u32 : tie.Need-overflow-mul-read-u32
 mul-read-u32 c = omega arith

@@ -1,7 +1,7 @@
 -- `run_ends::run_end_i64` meets its contract. Assumes nothing.
 use native.Mathlib.Omega.{arith}
-use Rattle.run_ends_lem.proofs.run_end_i64.Statement.{statement}
-use Rattle.run_ends_lem.proofs.run_end_i64.Tie as tie
+use Rattle.run_ends.proofs.run_end_i64.Statement.{statement}
+use Rattle.run_ends.proofs.run_end_i64.Tie as tie
 
 mul-read-u64 : tie.Need-overflow-mul-read-u64
 mul-read-u64 c = omega arith

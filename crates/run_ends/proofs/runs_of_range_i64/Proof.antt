@@ -1,9 +1,9 @@
 -- `run_ends::runs_of_range_i64` meets its contract. Assumes nothing.
 use borrow.Author.Rules.{rules}
 use native.Mathlib.Omega.{arith}
-use Rattle.run_ends_lem.proofs.Laws.{ranged_none, ranged_past, ranged_one, ranged_end_past, ranged_span, looked_below}
-use Rattle.run_ends_lem.proofs.runs_of_range_i64.Statement.{statement}
-use Rattle.run_ends_lem.proofs.runs_of_range_i64.Tie as tie
+use Rattle.run_ends.proofs.Laws.{ranged_none, ranged_past, ranged_one, ranged_end_past, ranged_span, looked_below}
+use Rattle.run_ends.proofs.runs_of_range_i64.Statement.{statement}
+use Rattle.run_ends.proofs.runs_of_range_i64.Tie as tie
 
 returns : tie.Need-returns
 returns c = let z = c.before.before.before.before.args in ranged_none 8 _ _ _ z.start.0 z.end.0 (omega arith)

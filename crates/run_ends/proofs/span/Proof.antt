@@ -1,8 +1,8 @@
 -- `run_ends::span` meets its contract. Assumes nothing.
 use native.Mathlib.Omega.{arith}
 use borrow.Author.Tests.{lt-ltb, le-ltb}
-use Rattle.run_ends_lem.proofs.span.Statement.{statement}
-use Rattle.run_ends_lem.proofs.span.Tie as tie
+use Rattle.run_ends.proofs.span.Statement.{statement}
+use Rattle.run_ends.proofs.span.Tie as tie
 
 returns : tie.Need-returns
 returns c = simp (lt-ltb _ _ c.if1.true)

@@ -4,9 +4,9 @@ use Prim.Native.Nat.{◌+◌, ◌-◌, ◌≤◌}
 use native.Mathlib.Numerals.{add-one}
 use native.Mathlib.Omega.{arith}
 use Rattle.number.specs.Number.{entry}
-use Rattle.run_ends_lem.specs.Lookup.{tally}
-use Rattle.run_ends_lem.proofs.tally_i32.Statement.{statement}
-use Rattle.run_ends_lem.proofs.tally_i32.Tie as tie
+use Rattle.run_ends.specs.Lookup.{tally}
+use Rattle.run_ends.proofs.tally_i32.Statement.{statement}
+use Rattle.run_ends.proofs.tally_i32.Tie as tie
 
 abbrev invariant-loop : tie.invariant-loop
 invariant-loop body from base m row sum₀ j₀ sum j = (j ≤ m) × (sum ≡ tally (entry 4 body from) row.0 base j) × (sum ≤ j)

@@ -4,9 +4,9 @@
 -- negative, so that `to_usize` answers; and what `usize_as` casts is at most a run end, so that the cast keeps it.
 use Rattle.std.specs.Prelude.{ℕ, zero, suc, ◌+◌, ◌*◌, ◌-◌, ◌/◌, ◌^◌, Bool, cond, ◌&&◌, List, [], ◌++◌, ltb, leb}
 use Rattle.number.specs.Number.{entry, encode}
-use Rattle.run_ends_lem.specs.Clip.{clipped}
-use Rattle.run_ends_lem.specs.declared.Runs.{Runs}
-use Rattle.run_ends_lem.specs.declared.Runs.TheVariants.{Range, None}
+use Rattle.run_ends.specs.Clip.{clipped}
+use Rattle.run_ends.specs.declared.Runs.{Runs}
+use Rattle.run_ends.specs.declared.Runs.TheVariants.{Range, None}
 
 -- values_range
 pub data ValuesRange : Type 0 where

@@ -2,8 +2,8 @@
 use native.Mathlib.Omega.{arith}
 use Rattle.schema.proofs.Laws.{below_none, below_values}
 use borrow.Author.Rules.{rules}
-use Rattle.schema.proofs.below_of_lem.Statement.{statement}
-use Rattle.schema.proofs.below_of_lem.Tie as tie
+use Rattle.schema.proofs.below_of.Statement.{statement}
+use Rattle.schema.proofs.below_of.Tie as tie
 
 children-of-requires : tie.Need-children-of-requires
 children-of-requires c κs = search rules

@@ -7,8 +7,8 @@ use native.Mathlib.Nat.{zero-add, mul_comm}
 use lib.ListN.{drop}
 use lib.Dec.{ltb}
 use Rattle.number.specs.Number.{number, entry}
-use Rattle.run_ends_lem.specs.Lookup as lookup
-use Rattle.run_ends_lem.specs.Lookup.{scan}
+use Rattle.run_ends.specs.Lookup as lookup
+use Rattle.run_ends.specs.Lookup.{scan}
 use Rattle.columnar.specs.Array.{item}
 use Rattle.columnar.specs.RunEnd.{first_above}
 

@@ -8,12 +8,12 @@ use lib.ListN.{length}
 use lib.Dec.{ltb}
 use borrow.Author.Tests.{lt-ltb, le-ltb, ne_eqb, ltb-true}
 use Rattle.number.specs.Number.{entry}
-use Rattle.run_ends_lem.specs.Lookup.{Rising, Covers, first_above, left_of, found_at, found_run}
-use Rattle.run_ends_lem.proofs.Laws.{bisect_first}
-use Rattle.run_ends_lem.proofs.Left.{Left, found_left, found_some}
-use Rattle.run_ends_lem.specs.declared.PhysicalRun.{PhysicalRun}
-use Rattle.run_ends_lem.specs.declared.Found.{Found}
-use Rattle.run_ends_lem.specs.declared.Found.TheVariants as found
+use Rattle.run_ends.specs.Lookup.{Rising, Covers, first_above, left_of, found_at, found_run}
+use Rattle.run_ends.proofs.Laws.{bisect_first}
+use Rattle.run_ends.proofs.Left.{Left, found_left, found_some}
+use Rattle.run_ends.specs.declared.PhysicalRun.{PhysicalRun}
+use Rattle.run_ends.specs.declared.Found.{Found}
+use Rattle.run_ends.specs.declared.Found.TheVariants as found
 use Rattle.slot_reader.specs.declared.run.RowRun.{RowRun}
 use Rattle.slot_reader.specs.declared.run.RowRun.TheVariants as answer
 use Rattle.slot_reader.specs.run.Rows.{is_width, ends_run, as_row, row_run_by, row_run, row_run_first}

@@ -1,8 +1,8 @@
 -- The run of a row of a run-end column: n run ends of w bytes that stand in s, with the column's offset and length. Assumes nothing.
 use Rattle.std.specs.Prelude.{ℕ, ◌+◌, ◌/◌, ◌^◌, Bool, cond, ◌||◌, List, length, ltb, eqb}
-use Rattle.run_ends_lem.specs.Lookup.{first_above, bisect, found_at}
-use Rattle.run_ends_lem.specs.declared.Found.{Found}
-use Rattle.run_ends_lem.specs.declared.Found.TheVariants as found
+use Rattle.run_ends.specs.Lookup.{first_above, bisect, found_at}
+use Rattle.run_ends.specs.declared.Found.{Found}
+use Rattle.run_ends.specs.declared.Found.TheVariants as found
 use Rattle.slot_reader.specs.declared.run.RowRun.{RowRun}
 use Rattle.slot_reader.specs.declared.run.RowRun.TheVariants as answer
 

@@ -13,7 +13,7 @@ use borrow.Author.Tests.{leb-true, eq-eqb, ne_eqb, eqb-true, eqb-false}
 use Rattle.columnar.specs.Array.{Array, bit, ok}
 use Rattle.columnar.specs.Test.{every, mask_test, ends_test}
 use Rattle.columnar.specs.RunEnd.{end_of, start_of}
-use Rattle.run_ends_lem.specs.Lookup.{last_end}
+use Rattle.run_ends.specs.Lookup.{last_end}
 use Rattle.bits.specs.Bits.{bits, bits_at, zeros}
 use Rattle.bits.proofs.Laws.{bit_at, take_bits, drop_bits, length_bits, below_at_lem, below_bits}
 use Rattle.bits.proofs.Puts.{zeros_add}

@@ -4,7 +4,7 @@ use Rattle.std.specs.Prelude.{Bool, true, cond, ◌&&◌, List, ℕ, ◌+◌, �
 use Rattle.number.specs.Number.{entry}
 use Rattle.columnar.specs.Array.{ok}
 use Rattle.columnar.specs.Test.{every}
-use Rattle.run_ends_lem.specs.Lookup.{last_end}
+use Rattle.run_ends.specs.Lookup.{last_end}
 use Rattle.array_data.specs.Tables.{Tables, length_of, offset_of, valid_of, place, held}
 use Rattle.array_data.specs.lent_tables.Lent.{mask_of}
 use Rattle.row_rules.specs.Rules.{offsets_rows, list_view_rows, ends_rows}

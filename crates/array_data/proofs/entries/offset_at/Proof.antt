@@ -4,8 +4,8 @@ use Prim.Native.Nat.{◌+◌, ◌*◌}
 use native.Mathlib.Omega.{arith}
 use Rattle.array_data.proofs.entries.Laws.{shifted}
 use borrow.Author.Rules.{rules}
-use Rattle.array_data.proofs.entries.offset_at_lem.Statement.{statement}
-use Rattle.array_data.proofs.entries.offset_at_lem.Tie as tie
+use Rattle.array_data.proofs.entries.offset_at.Statement.{statement}
+use Rattle.array_data.proofs.entries.offset_at.Tie as tie
 
 add-offset-of : tie.Need-overflow-add-offset-of
 add-offset-of c = search rules

@@ -4,8 +4,8 @@ use Prim.Native.Nat.{◌+◌, ◌*◌}
 use native.Mathlib.Omega.{arith}
 use Rattle.array_data.proofs.entries.Laws.{shifted}
 use borrow.Author.Rules.{rules}
-use Rattle.array_data.proofs.entries.place_at_lem.Statement.{statement}
-use Rattle.array_data.proofs.entries.place_at_lem.Tie as tie
+use Rattle.array_data.proofs.entries.place_at.Statement.{statement}
+use Rattle.array_data.proofs.entries.place_at.Tie as tie
 
 add-place : tie.Need-overflow-add-place
 add-place c = search rules

@@ -1,8 +1,8 @@
 -- `lent_tables::one_in` meets its contract. Assumes nothing.
 use Rattle.array_data.proofs.lent_tables.Laws.{no, yes}
 use borrow.Author.Rules.{rules}
-use Rattle.array_data.proofs.lent_tables.one_in_lem.Statement.{statement}
-use Rattle.array_data.proofs.lent_tables.one_in_lem.Tie as tie
+use Rattle.array_data.proofs.lent_tables.one_in.Statement.{statement}
+use Rattle.array_data.proofs.lent_tables.one_in.Tie as tie
 
 held-requires : tie.Need-held-requires
 held-requires c κs = search rules

@@ -1,8 +1,8 @@
 -- `lent_tables::two_in` meets its contract. Assumes nothing.
 use Rattle.array_data.proofs.lent_tables.Laws.{no, yes}
 use borrow.Author.Rules.{rules}
-use Rattle.array_data.proofs.lent_tables.two_in_lem.Statement.{statement}
-use Rattle.array_data.proofs.lent_tables.two_in_lem.Tie as tie
+use Rattle.array_data.proofs.lent_tables.two_in.Statement.{statement}
+use Rattle.array_data.proofs.lent_tables.two_in.Tie as tie
 
 one-in-requires : tie.Need-one-in-requires
 one-in-requires c κs = search rules

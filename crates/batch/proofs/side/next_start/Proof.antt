@@ -3,8 +3,8 @@ use mathlib.Core.Path.{refl}
 use borrow.Author.Tests.{eq-eqb, ne_eqb}
 use Rattle.batch.specs.batch_walk.Side.{next_start}
 use borrow.Author.Rules.{rules}
-use Rattle.batch.proofs.side.next_start_lem.Statement.{statement}
-use Rattle.batch.proofs.side.next_start_lem.Tie as tie
+use Rattle.batch.proofs.side.next_start.Statement.{statement}
+use Rattle.batch.proofs.side.next_start.Tie as tie
 
 returns : tie.Need-returns
 unfolding next_start

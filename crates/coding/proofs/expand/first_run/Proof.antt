@@ -11,8 +11,8 @@ use Rattle.slot_reader.specs.run.Rows.{row_run}
 use Rattle.aggregates.specs.declared.stretches.Ends.{Ends}
 use Rattle.aggregates.specs.stretches.Ends.{ends_of}
 use Rattle.coding.specs.Expand.{run_or}
-use Rattle.coding.proofs.expand.first_run_lem.Statement.{statement}
-use Rattle.coding.proofs.expand.first_run_lem.Tie as tie
+use Rattle.coding.proofs.expand.first_run.Statement.{statement}
+use Rattle.coding.proofs.expand.first_run.Tie as tie
 
 -- the run ends that were found
 abbrev ends_of_lem : tie.Start → Ends

@@ -2,8 +2,8 @@
 use borrow.Author.Rules.{rules}
 use borrow.Author.Tests.{eq-eqb, ne_eqb}
 use Rattle.columns.specs.column_pair.Pair.{plain_code}
-use Rattle.columns.proofs.column_pair.plain_code_lem.Statement.{statement}
-use Rattle.columns.proofs.column_pair.plain_code_lem.Tie as tie
+use Rattle.columns.proofs.column_pair.plain_code.Statement.{statement}
+use Rattle.columns.proofs.column_pair.plain_code.Tie as tie
 
 returns : tie.Need-returns
 unfolding plain_code

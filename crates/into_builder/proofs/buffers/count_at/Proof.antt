@@ -4,8 +4,8 @@ use Rattle.array_data.proofs.lent_tables.Laws.{no, yes}
 use Rattle.into_builder.proofs.buffers.Names.{count_none, count_some}
 use borrow.Author.Rules.{rules}
 use native.Mathlib.Omega.{arith}
-use Rattle.into_builder.proofs.buffers.count_at_lem.Statement.{statement}
-use Rattle.into_builder.proofs.buffers.count_at_lem.Tie as tie
+use Rattle.into_builder.proofs.buffers.count_at.Statement.{statement}
+use Rattle.into_builder.proofs.buffers.count_at.Tie as tie
 
 code-of-requires : tie.Need-code-of-requires
 code-of-requires c κs = search rules

@@ -4,8 +4,8 @@ use borrow.Author.Tests.{ltb-true}
 use Rattle.array_data.proofs.lent_tables.Laws.{no, yes}
 use Rattle.into_builder.proofs.counts.Nulls.{kept_copied, kept_not, kept_by}
 use borrow.Author.Rules.{rules}
-use Rattle.into_builder.proofs.counts.kept_in_lem.Statement.{statement}
-use Rattle.into_builder.proofs.counts.kept_in_lem.Tie as tie
+use Rattle.into_builder.proofs.counts.kept_in.Statement.{statement}
+use Rattle.into_builder.proofs.counts.kept_in.Tie as tie
 
 is-copied-requires : tie.Need-is-copied-requires
 is-copied-requires c κs = search rules

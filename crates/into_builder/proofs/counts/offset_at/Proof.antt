@@ -2,8 +2,8 @@
 use mathlib.Core.List.{[]}
 use Rattle.into_builder.proofs.counts.Nulls.{offset_copied, offset_kept}
 use borrow.Author.Rules.{rules}
-use Rattle.into_builder.proofs.counts.offset_at_lem.Statement.{statement}
-use Rattle.into_builder.proofs.counts.offset_at_lem.Tie as tie
+use Rattle.into_builder.proofs.counts.offset_at.Statement.{statement}
+use Rattle.into_builder.proofs.counts.offset_at.Tie as tie
 
 is-copied-requires : tie.Need-is-copied-requires
 is-copied-requires c κs = search rules

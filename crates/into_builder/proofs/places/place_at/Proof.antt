@@ -3,8 +3,8 @@ use Rattle.into_builder.specs.buffers.Names.{lent}
 use Rattle.into_builder.proofs.places.Spots.{place_copied, place_kept, nulls_zeros, nulls_are}
 use borrow.Author.Rules.{rules}
 use native.Mathlib.Omega.{arith}
-use Rattle.into_builder.proofs.places.place_at_lem.Statement.{statement}
-use Rattle.into_builder.proofs.places.place_at_lem.Tie as tie
+use Rattle.into_builder.proofs.places.place_at.Statement.{statement}
+use Rattle.into_builder.proofs.places.place_at.Tie as tie
 
 at-u64-requires : tie.Need-at-u64-requires
 at-u64-requires c κs = search rules

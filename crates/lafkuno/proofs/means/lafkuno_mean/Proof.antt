@@ -46,7 +46,7 @@ returns-3 : tie.Need-returns-3
 returns-3 c =
     let g = c.before in
     let m = g.before.before in
-    mean_refused _ _ _ (sym m.mean.ensures ∙ g.ground.given.1)
+    mean_refused _ _ _ (sym m.mean.ensures ∙ g.refusal.given.1)
 
 pub lafkuno-mean-spec : {M : Type 1} → statement M
 lafkuno-mean-spec =

@@ -46,7 +46,7 @@ returns-3 : tie.Need-returns-3
 returns-3 c =
     let g = c.before in
     let m = g.before.before in
-    ratio_refused _ _ _ (sym m.ratio.ensures ∙ g.ground.given.1)
+    ratio_refused _ _ _ (sym m.ratio.ensures ∙ g.refusal.given.1)
 
 pub lafkuno-ratio-spec : {M : Type 1} → statement M
 lafkuno-ratio-spec =

@@ -41,7 +41,7 @@ returns-3 : tie.Need-returns-3
 returns-3 c =
     let g = c.before in
     let m = g.before.before in
-    same_refused _ _ _ (sym m.same_row_lem.ensures ∙ g.ground.given.1)
+    same_refused _ _ _ (sym m.same_row_lem.ensures ∙ g.refusal.given.1)
 
 pub lafkuno-same-row-spec : {M : Type 1} → statement M
 lafkuno-same-row-spec =

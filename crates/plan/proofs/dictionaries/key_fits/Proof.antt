@@ -4,8 +4,8 @@ use Prim.Native.Nat.{◌+◌, ◌-◌}
 use native.Mathlib.Omega.{arith}
 use lib.Dec.{leb}
 use Rattle.plan.proofs.dictionaries.Keys.{key_over, key_none, key_last}
-use Rattle.plan.proofs.dictionaries.key_fits_lem.Statement.{statement}
-use Rattle.plan.proofs.dictionaries.key_fits_lem.Tie as tie
+use Rattle.plan.proofs.dictionaries.key_fits.Statement.{statement}
+use Rattle.plan.proofs.dictionaries.key_fits.Tie as tie
 
 largest-key-requires : tie.Need-largest-key-requires
 largest-key-requires c κs = c.requires

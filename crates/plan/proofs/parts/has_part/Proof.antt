@@ -1,8 +1,8 @@
 -- `parts::has_part` meets its contract. Assumes nothing.
 use Rattle.plan.proofs.parts.Laws.{has_validity, has_buffer}
 use borrow.Author.Rules.{rules}
-use Rattle.plan.proofs.parts.has_part_lem.Statement.{statement}
-use Rattle.plan.proofs.parts.has_part_lem.Tie as tie
+use Rattle.plan.proofs.parts.has_part.Statement.{statement}
+use Rattle.plan.proofs.parts.has_part.Tie as tie
 
 validity-parts-requires : tie.Need-validity-parts-requires
 validity-parts-requires c κs = search rules

@@ -2,8 +2,8 @@
 use Rattle.leaf_walk.specs.Join.{join}
 use Rattle.reclaim.proofs.reclaim_walk.Laws.{first_no, first_yes, string_key}
 use borrow.Author.Rules.{rules}
-use Rattle.reclaim.proofs.reclaim_walk.first_entry_lem.Statement.{statement}
-use Rattle.reclaim.proofs.reclaim_walk.first_entry_lem.Tie as tie
+use Rattle.reclaim.proofs.reclaim_walk.first_entry.Statement.{statement}
+use Rattle.reclaim.proofs.reclaim_walk.first_entry.Tie as tie
 
 code-of-requires : tie.Need-code-of-requires
 code-of-requires c κs = search rules

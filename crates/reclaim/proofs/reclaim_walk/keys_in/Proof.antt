@@ -3,8 +3,8 @@ use mathlib.Core.List.{[]}
 use Rattle.leaf_walk.specs.Join.{join}
 use Rattle.reclaim.proofs.reclaim_walk.Laws.{in_code, in_sum, in_entries, in_rows_lem, in_none, in_bits, below_far, width_small}
 use borrow.Author.Rules.{rules}
-use Rattle.reclaim.proofs.reclaim_walk.keys_in_lem.Statement.{statement}
-use Rattle.reclaim.proofs.reclaim_walk.keys_in_lem.Tie as tie
+use Rattle.reclaim.proofs.reclaim_walk.keys_in.Statement.{statement}
+use Rattle.reclaim.proofs.reclaim_walk.keys_in.Tie as tie
 
 offset-of-requires : tie.Need-offset-of-requires
 offset-of-requires c κs = search rules

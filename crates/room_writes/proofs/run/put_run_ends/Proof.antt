@@ -2,8 +2,8 @@
 use native.Mathlib.Omega.{arith}
 use Rattle.room_writes.proofs.Laws.{alike_sized, made, put_at, put_skip, times_within}
 use lib.ListN.{length}
-use Rattle.run_ends_lem.specs.Clip.{clipped}
-use Rattle.run_ends_lem.proofs.Laws.{length_clipped}
+use Rattle.run_ends.specs.Clip.{clipped}
+use Rattle.run_ends.proofs.Laws.{length_clipped}
 use Rattle.room_writes.proofs.Bytes.{width_in_lem}
 use Rattle.walk.specs.State.{scaled}
 use borrow.Author.Rules.{rules}

@@ -4,8 +4,8 @@ use Prim.Native.Nat.{◌<◌, ◌^◌}
 use borrow.Author.Rules.{rules}
 use Rattle.source_rules.specs.kinds.Rows.{tables_of}
 use Rattle.row_reader.proofs.row_pair.Answers.{same_refused, same_answer}
-use Rattle.row_reader.proofs.row_pair.same_row_lem.Statement.{statement}
-use Rattle.row_reader.proofs.row_pair.same_row_lem.Tie as tie
+use Rattle.row_reader.proofs.row_pair.same_row.Statement.{statement}
+use Rattle.row_reader.proofs.row_pair.same_row.Tie as tie
 
 rows-ground-requires : tie.Need-rows-ground-requires
 rows-ground-requires c κs = search rules

@@ -1,8 +1,8 @@
 -- `run_copy::clip_end` meets its contract. Assumes nothing.
 use mathlib.Core.Logic.{⊎_elim}
 use native.Mathlib.Omega.{arith}
-use Rattle.run_ends_lem.proofs.copies.clip_end.Statement.{statement}
-use Rattle.run_ends_lem.proofs.copies.clip_end.Tie as tie
+use Rattle.run_ends.proofs.copies.clip_end.Statement.{statement}
+use Rattle.run_ends.proofs.copies.clip_end.Tie as tie
 
 returns : tie.Need-returns
 returns c = ⊎_elim (λ w. omega arith) (λ w. omega arith) c.before.if1.branch

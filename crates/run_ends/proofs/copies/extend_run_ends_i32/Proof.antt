@@ -5,10 +5,10 @@ use native.Mathlib.Omega.{arith}
 use lib.ListN.{length}
 use Rattle.number.specs.Number.{splice}
 use Rattle.number.proofs.Laws.{splice_nil}
-use Rattle.run_ends_lem.specs.Clip.{clipped}
-use Rattle.run_ends_lem.proofs.Laws.{clipped_step}
-use Rattle.run_ends_lem.proofs.copies.extend_run_ends_i32.Statement.{statement}
-use Rattle.run_ends_lem.proofs.copies.extend_run_ends_i32.Tie as tie
+use Rattle.run_ends.specs.Clip.{clipped}
+use Rattle.run_ends.proofs.Laws.{clipped_step}
+use Rattle.run_ends.proofs.copies.extend_run_ends_i32.Statement.{statement}
+use Rattle.run_ends.proofs.copies.extend_run_ends_i32.Tie as tie
 
 abbrev invariant-loop : tie.invariant-loop
 invariant-loop room₀ at body from m start end last k₀ room k =

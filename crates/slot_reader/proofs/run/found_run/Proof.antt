@@ -8,9 +8,9 @@ use Rattle.slot_reader.proofs.run.found_run.Statement.{statement}
 use Rattle.slot_reader.proofs.run.found_run.Tie as tie
 use Rattle.slot_reader.proofs.run.found_run.Reads as reads
 use Rattle.slot_reader.proofs.run.found_run.Lts as lts
-use Rattle.run_ends_lem.proofs.find_run_i16.Reads as find-run-i16-reads
-use Rattle.run_ends_lem.proofs.find_run_i32.Reads as find-run-i32-reads
-use Rattle.run_ends_lem.proofs.find_run_i64.Reads as find-run-i64-reads
+use Rattle.run_ends.proofs.find_run_i16.Reads as find-run-i16-reads
+use Rattle.run_ends.proofs.find_run_i32.Reads as find-run-i32-reads
+use Rattle.run_ends.proofs.find_run_i64.Reads as find-run-i64-reads
 
 find-run-i16-requires : tie.Need-find-run-i16-requires
 find-run-i16-requires c κs = search rules

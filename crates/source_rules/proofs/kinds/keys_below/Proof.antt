@@ -3,8 +3,8 @@ use mathlib.Core.Path.{◌≡◌, ap}
 use Prim.Native.Nat.{ℕ, ◌*◌}
 use native.Mathlib.Omega.{arith}
 use Rattle.source_rules.proofs.kinds.Laws.{widths_all}
-use Rattle.source_rules.proofs.kinds.keys_below_lem.Statement.{statement}
-use Rattle.source_rules.proofs.kinds.keys_below_lem.Tie as tie
+use Rattle.source_rules.proofs.kinds.keys_below.Statement.{statement}
+use Rattle.source_rules.proofs.kinds.keys_below.Tie as tie
 
 keys-below-u8-requires : tie.Need-keys-below-u8-requires
 keys-below-u8-requires c κs =

@@ -5,8 +5,8 @@ use lib.ListN.{length}
 use lib.Dec.{leb}
 use Rattle.array_data.proofs.lent_tables.Laws.{is_none, is_some}
 use borrow.Author.Rules.{rules}
-use Rattle.transform.proofs.leaf_bits.bits_in_lem.Statement.{statement}
-use Rattle.transform.proofs.leaf_bits.bits_in_lem.Tie as tie
+use Rattle.transform.proofs.leaf_bits.bits_in.Statement.{statement}
+use Rattle.transform.proofs.leaf_bits.bits_in.Tie as tie
 
 keeps-of-requires : tie.Need-keeps-of-requires
 keeps-of-requires c κs = search rules

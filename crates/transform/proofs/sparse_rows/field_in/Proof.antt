@@ -6,8 +6,8 @@ use Rattle.leaf_walk.specs.Join.{join}
 use Rattle.nested_rows.proofs.lookups.Laws.{slot_rows}
 use Rattle.transform.proofs.sparse_rows.Laws.{field_far, field_bits, field_rows}
 use borrow.Author.Rules.{rules}
-use Rattle.transform.proofs.sparse_rows.field_in_lem.Statement.{statement}
-use Rattle.transform.proofs.sparse_rows.field_in_lem.Tie as tie
+use Rattle.transform.proofs.sparse_rows.field_in.Statement.{statement}
+use Rattle.transform.proofs.sparse_rows.field_in.Tie as tie
 
 slot-of-requires : tie.Need-slot-of-requires
 slot-of-requires c κs = search rules

@@ -1,7 +1,7 @@
 -- `vectors::runs::copy_i16` is safe and ends: the runs that it found lie among the n, and the last run end fits. Assumes nothing.
 use Rattle.std.proofs.Common.{arith, rules}
-use Rattle.run_ends_lem.specs.Lookup.{bisect}
-use Rattle.run_ends_lem.proofs.Laws.{range_within}
+use Rattle.run_ends.specs.Lookup.{bisect}
+use Rattle.run_ends.proofs.Laws.{range_within}
 use Rattle.vectors.proofs.runs.copy_i16.Statement.{statement}
 use Rattle.vectors.proofs.runs.copy_i16.Tie as tie
 

@@ -4,8 +4,8 @@ use native.Mathlib.Nat.{mul_comm}
 use Prim.Native.Nat.{◌+◌}
 use mathlib.Core.Path.{◌∙◌}
 use Rattle.width_loop.proofs.Laws.{no_offset, some_offset}
-use Rattle.width_loop.proofs.leaves.offset_at_lem.Statement.{statement}
-use Rattle.width_loop.proofs.leaves.offset_at_lem.Tie as tie
+use Rattle.width_loop.proofs.leaves.offset_at.Statement.{statement}
+use Rattle.width_loop.proofs.leaves.offset_at.Tie as tie
 
 returns : tie.Need-returns
 returns c =
