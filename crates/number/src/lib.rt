@@ -1,5 +1,6 @@
 // Little-endian numbers in a slice of bytes, at the widths 1, 2, 4 and 8, and their two's complement.
 #![tactic(auto)]
+
 pub mod copy;
 
 ghost use Rattle.std.specs.Prelude.{◌≡◌, ◌+◌, ◌≤◌, length, drop};
