@@ -2,6 +2,7 @@
 // They do the work of `set_bits` (bit_mask.rs) and `resize_for_bits` (arrow-data 60.1.0 src/transform/utils.rs).
 // A position is a byte of the slice and a number of bits from there on.
 #![tactic(auto)]
+
 ghost use Rattle.std.specs.Prelude.{◌≡◌, ◌+◌, ◌*◌, ◌-◌, ◌%◌, ◌^◌, ◌≤◌, ◌<◌, min, length, replicate, get_or};
 ghost use Rattle.bits.specs.Bits.{digits, bits, zeros, bits_at, put_bits};
 

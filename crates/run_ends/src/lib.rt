@@ -1,6 +1,7 @@
 // Run ends of the run-end encoded layout: the run of a row with the rows left in it, and the runs of a range.
 // Follows arrow-data 60.1.0 src/transform/run.rs, Apache-2.0; see NOTICE.
 #![tactic(auto)]
+
 pub mod copies;
 
 ghost use Rattle.std.specs.Prelude.{◌≡◌, ◌+◌, ◌*◌, ◌≤◌, ◌<◌, length};

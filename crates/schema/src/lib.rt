@@ -1,5 +1,6 @@
 // Lent type trees (docs/FORMAT.md): the nodes of a source in depth-first order, five numbers a node.
 #![tactic(auto)]
+
 pub mod formats;
 pub mod union_ids;
 

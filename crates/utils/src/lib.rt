@@ -1,6 +1,7 @@
 // The room of bits, and the extension of offsets at both widths.
 // Follows arrow-data 60.1.0 src/transform/utils.rs and the extend_nulls of src/transform/variable_size.rs, Apache-2.0; see NOTICE.
 #![tactic(auto)]
+
 pub mod byte_view;
 pub mod primitive;
 
