@@ -64,6 +64,7 @@ rows_of false s k p = absurd p
 each_out : (p : ℕ → Bool) (ids : List ℕ) → T (each p ids) → (c : ℕ) → Memᴰ c ids → T (p c)
 each_out p (d ∷ ds) h c (Memᴰ.head e) = subst (λ z. T (p z)) (sym e) (and_one (p d) (each p ds) h)
 each_out p (d ∷ ds) h c (Memᴰ.tail q) = each_out p ds (and_two (p d) (each p ds) h) c q
+each_out p [] h c x'' = elim x'' [ ]
 
 true_each : (ids : List ℕ) → T (each (λ c. true) ids)
 true_each [] = tt

@@ -176,4 +176,4 @@ new_offsets_lem w s a (suc n) last h q = go (ltb next (half w)) refl (new_offset
 -- a null repeats the last offset
 pub repeated_is : (w v k n : ℕ) → repeated w v n ≡ encodes w (seg (λ i. v + 0) k n)
 repeated_is w v k zero = refl
-repeated_is w v k (suc n) = rw (add-zero v) (ap (encode w v ++◌) (rw (add-zero v) at (repeated_is w v (suc k) n)))
+repeated_is w v k (suc n) = rw (add-zero v) (ap (encode w v ++◌) (repeated_is w v (suc k) n))

@@ -2,7 +2,7 @@
 use mathlib.Core.Path.{◌≡◌, refl, ap, sym, subst, ◌∙◌}
 use mathlib.Core.Bool.{Bool, true, false}
 use mathlib.Core.List.Memᴰ
-use mathlib.Core.List.{List, ◌∷◌, Memᴰ}
+use mathlib.Core.List.{List, [], ◌∷◌, Memᴰ}
 use Prim.Native.Nat.{ℕ, zero, suc, ◌+◌, ◌≤◌, ◌<◌}
 use native.Mathlib.Omega.{arith}
 use lib.Dec.{ltb, eqb}
@@ -24,6 +24,7 @@ use Rattle.array_data.proofs.type_tree.Lent.{tree, child_same, after_leaf, first
 all_in : (f : ℕ → List ℕ) (ids : List ℕ) (c j : ℕ) → Memᴰ c ids → Memᴰ j (f c) → Memᴰ j (all_of f ids)
 all_in f (d ∷ ds) c j (Memᴰ.head e) m = Memᴰ.append_left (all_of f ds) (subst (λ z. Memᴰ j (f z)) e m)
 all_in f (d ∷ ds) c j (Memᴰ.tail q) m = Memᴰ.append_right (f d) (all_in f ds c j q m)
+all_in f [] c j q m = elim q [ ]
 
 module _ (formats schema : List ℕ) (first n : ℕ) where
   -- node j is in the subtree of child c of node i, one of the first k

@@ -32,6 +32,7 @@ both a b h = (and-eq-true_iff a b).0 h
 mem_member : (ids : List ℕ) (c : ℕ) → Memᴰ c ids → member c ids ≡ true
 mem_member (d ∷ ds) c (Memᴰ.head e) = ap (λ b. b || member c ds) (eq-eqb c d e)
 mem_member (d ∷ ds) c (Memᴰ.tail q) = ap (λ b. eqb c d || b) (mem_member ds c q) ∙ or-true (eqb c d)
+mem_member [] c x' = elim x' [ ]
 
 ids_of_lem : (ids : List ℕ) → small ids ≡ true → distinct ids ≡ true → Ids ids
 unfolding distinct
@@ -77,6 +78,7 @@ field_in_lem (d ∷ ds) c (Memᴰ.tail q) = go (eqb c d) (field_in_lem ds c q)
     go : (b : Bool) → field_of ds c < length ds → cond b 0 (suc (field_of ds c)) < suc (length ds)
     go true h = omega arith
     go false h = omega arith
+field_in_lem [] c x' = elim x' [ ]
 
 -- each field has a declared id
 pub record FieldId (ids : List ℕ) (k : ℕ) : Type 0 where
