@@ -1,5 +1,6 @@
 // What the leaves do on given numbers and bytes, line by line; `stdout` has what is due.
 #![tactic(auto)]
+
 mod bitmaps;
 mod leaves;
 mod names;
