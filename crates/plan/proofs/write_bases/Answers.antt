@@ -36,7 +36,7 @@ pub loop-q-preserved : goal.loop-q-preserved
 loop-q-preserved c =
     let z = c.args in
     let l = c.loop-q in
-    (omega arith, filled_more (λ k. 352 + k) (λ words k. base_word (tables z.lengths.now z.places.now z.body.now) z.sources.now z.m words (k / 32) (k % 32)) l.q z.plan.now l.plan l.invariant.1 c.base_IsWord.ensures)
+    (omega arith, filled_more (λ k. 352 + k) (λ words k. base_word (tables z.lengths.now z.places.now z.body.now) z.sources.now z.m words (k / 32) (k % 32)) l.q z.plan.now l.plan l.invariant.1 c.base_word.ensures)
 
 pub returns : goal.returns
 unfolding with_bases

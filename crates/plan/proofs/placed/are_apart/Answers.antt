@@ -10,5 +10,5 @@ returns-then-size-other_size c = apart_empty c.args.parts.now c.args.p c.args.q 
 pub returns : goal.returns
 returns c =
     let a = c.args in
-    ap₂ ◌||◌ c.fits-behind.ensures c.fits-behind.ensures
+    ap₂ ◌||◌ c.fits-before.ensures c.fits-behind.ensures
     ∙ apart_full a.parts.now a.p a.q c.at_u64-size.ensures c.at_u64-other_size.ensures c.if-size-other_size.false c.at_u64-start.ensures c.at_u64-other.ensures

@@ -11,26 +11,26 @@ use Rattle.room_writes.proofs.keys.write_keys.Goals as goal
 pub extend_with_offset_i8-requires : goal.extend_with_offset_i8-requires
 extend_with_offset_i8-requires c =
     let a = c.args in
-    let e : a.w ≡ 1 = c.requires.w_value_2 ∙ ap width_of c.inlet both = -1.is in
-    omega (arith, e, ap (λ (z : ℕ). z * a.n) e) in record { n_in_bounds = both.0; n_in_bounds_2 = both.1 }
+    let e : a.w ≡ 1 = c.requires.w_value_2 ∙ ap width_of c.in-1.is in
+    record { n_in_bounds = omega (arith, e, ap (λ (z : ℕ). z * a.n) e); n_in_bounds_2 = omega (arith, e, ap (λ (z : ℕ). z * a.n) e) }
 
 pub extend_with_offset_i16-requires : goal.extend_with_offset_i16-requires
 extend_with_offset_i16-requires c =
     let a = c.args in
-    let e : a.w ≡ 2 = c.requires.w_value_2 ∙ ap width_of c.inlet both = -3.is in
-    omega (arith, e, ap (λ (z : ℕ). z * a.n) e) in record { n_in_bounds = both.0; n_in_bounds_2 = both.1 }
+    let e : a.w ≡ 2 = c.requires.w_value_2 ∙ ap width_of c.in-3.is in
+    record { n_in_bounds = omega (arith, e, ap (λ (z : ℕ). z * a.n) e); n_in_bounds_2 = omega (arith, e, ap (λ (z : ℕ). z * a.n) e) }
 
 pub extend_with_offset_i32-requires : goal.extend_with_offset_i32-requires
 extend_with_offset_i32-requires c =
     let a = c.args in
-    let e : a.w ≡ 4 = c.requires.w_value_2 ∙ ap width_of c.inlet both = -5.is in
-    omega (arith, e, ap (λ (z : ℕ). z * a.n) e) in record { n_in_bounds = both.0; n_in_bounds_2 = both.1 }
+    let e : a.w ≡ 4 = c.requires.w_value_2 ∙ ap width_of c.in-5.is in
+    record { n_in_bounds = omega (arith, e, ap (λ (z : ℕ). z * a.n) e); n_in_bounds_2 = omega (arith, e, ap (λ (z : ℕ). z * a.n) e) }
 
 pub extend_with_offset_i64-requires : goal.extend_with_offset_i64-requires
 extend_with_offset_i64-requires c =
     let a = c.args in
-    let e : a.w ≡ 8 = c.requires.w_value_2 ∙ ap width_of c.inlet both = -7.is in
-    omega (arith, e, ap (λ (z : ℕ). z * a.n) e) in record { n_in_bounds = both.0; n_in_bounds_2 = both.1 }
+    let e : a.w ≡ 8 = c.requires.w_value_2 ∙ ap width_of c.in-7.is in
+    record { n_in_bounds = omega (arith, e, ap (λ (z : ℕ). z * a.n) e); n_in_bounds_2 = omega (arith, e, ap (λ (z : ℕ). z * a.n) e) }
 
 pub write_unsigned_keys-requires : goal.write_unsigned_keys-requires
 write_unsigned_keys-requires c = record { n_in_bounds = c.requires.n_in_bounds; w_value = c.requires.w_value }
