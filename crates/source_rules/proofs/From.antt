@@ -52,7 +52,7 @@ module _ (x : Tables) (first : ℕ) where
   fixed_from i n = rw (held_from i, place_from i 0, place_from i 1, place_from i 2, place_from i 3, place_from i 4, length_from i, offset_from i)
 
   pub string_from : (i w : ℕ) → string_rule (tables_from x first) i w ≡ string_rule x (first + i) w
-  string_from i w = rw (held_from i, place_from i 0, place_from i 1, place_from i 2, place_from i 3, place_from i 4, place_from i 5, place_from i 6, length_from i, offset_from i)
+  string_from i w = simp (held_from i, place_from i 0, place_from i 1, place_from i 2, place_from i 3, place_from i 4, place_from i 5, place_from i 6, length_from i, offset_from i)
 
   pub view_from : (i : ℕ) → view_rule (tables_from x first) i ≡ view_rule x (first + i)
   view_from i = rw (held_from i, place_from i 0, place_from i 1, place_from i 2, place_from i 3, place_from i 4, place_from i 7, place_from i 8, length_from i, offset_from i)
@@ -61,7 +61,7 @@ module _ (x : Tables) (first : ℕ) where
   list_view_from i w = rw (held_from i, place_from i 0, place_from i 1, place_from i 2, place_from i 3, place_from i 4, place_from i 5, place_from i 6, length_from i, offset_from i, length_from (suc i), add-suc first i)
 
   pub list_from : (i w : ℕ) → list_rule (tables_from x first) i w ≡ list_rule x (first + i) w
-  list_from i w = rw (held_from i, place_from i 0, place_from i 1, place_from i 2, place_from i 3, place_from i 4, length_from i, offset_from i, length_from (suc i), add-suc first i)
+  list_from i w = simp (held_from i, place_from i 0, place_from i 1, place_from i 2, place_from i 3, place_from i 4, length_from i, offset_from i, length_from (suc i), add-suc first i)
 
   pub dictionary_from : (i : ℕ) (n : Number) → dictionary_rule (tables_from x first) i n ≡ dictionary_rule x (first + i) n
   dictionary_from i n = rw (held_from i, place_from i 0, place_from i 1, place_from i 2, place_from i 3, place_from i 4, length_from i, offset_from i, length_from (suc i), add-suc first i)
