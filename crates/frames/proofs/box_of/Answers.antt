@@ -16,50 +16,50 @@ use Rattle.frames.proofs.box_of.Goals as goal
 pub returns-then-refusal-ne0 : goal.returns-then-refusal-ne0
 returns-then-refusal-ne0 c =
     let z = c.args in
-    box_malformed z.formats.now z.schema.now (tables_of z.lengths.now z.places.now z.buffers.now z.body.now) z.first-a z.n-a z.first-b z.n-b z.start z.end c.pair_ground-refusal.ensures c.if-refusal-ne0.true
+    box_malformed z.formats.now z.schema.now (tables_of z.lengths.now z.places.now z.buffers.now z.body.now) z.first_a z.n_a z.first_b z.n_b z.start z.end c.pair_ground-refusal.ensures c.if-refusal-ne0.true
 
 pub returns-then-not-inside-inside2 : goal.returns-then-not-inside-inside2
 returns-then-not-inside-inside2 c =
     let z = c.args in
     let g = sym c.pair_ground-refusal.ensures ∙ c.if-refusal-ne0.false in
-    let e = ap₂ ◌&&◌ (c.is_range-inside.ensures ∙ range_as z.lengths.now z.places.now z.buffers.now z.body.now z.first-a z.start z.end) (c.is_range-inside2.ensures ∙ range_as z.lengths.now z.places.now z.buffers.now z.body.now z.first-b z.start z.end) in
-    box_outside z.formats.now z.schema.now (tables_of z.lengths.now z.places.now z.buffers.now z.body.now) z.first-a z.n-a z.first-b z.n-b z.start z.end g (no e c.if-not-inside-inside2.true-raw)
+    let e = ap₂ ◌&&◌ (c.is_range-inside.ensures ∙ range_as z.lengths.now z.places.now z.buffers.now z.body.now z.first_a z.start z.end) (c.is_range-inside2.ensures ∙ range_as z.lengths.now z.places.now z.buffers.now z.body.now z.first_b z.start z.end) in
+    box_outside z.formats.now z.schema.now (tables_of z.lengths.now z.places.now z.buffers.now z.body.now) z.first_a z.n_a z.first_b z.n_b z.start z.end g (no e c.if-not-inside-inside2.true-raw)
 
 pub returns-then-not-are_doubles : goal.returns-then-not-are_doubles
 returns-then-not-are_doubles c =
     let z = c.args in
     let g = sym c.pair_ground-refusal.ensures ∙ c.if-refusal-ne0.false in
-    let e = ap₂ ◌&&◌ (c.is_range-inside.ensures ∙ range_as z.lengths.now z.places.now z.buffers.now z.body.now z.first-a z.start z.end) (c.is_range-inside2.ensures ∙ range_as z.lengths.now z.places.now z.buffers.now z.body.now z.first-b z.start z.end) in
+    let e = ap₂ ◌&&◌ (c.is_range-inside.ensures ∙ range_as z.lengths.now z.places.now z.buffers.now z.body.now z.first_a z.start z.end) (c.is_range-inside2.ensures ∙ range_as z.lengths.now z.places.now z.buffers.now z.body.now z.first_b z.start z.end) in
     let h = yes e c.if-not-inside-inside2.false-raw in
-    box_other z.formats.now z.schema.now (tables_of z.lengths.now z.places.now z.buffers.now z.body.now) z.first-a z.n-a z.first-b z.n-b z.start z.end g h (no c.are_doubles.ensures c.if-not-are_doubles.true-raw)
+    box_other z.formats.now z.schema.now (tables_of z.lengths.now z.places.now z.buffers.now z.body.now) z.first_a z.n_a z.first_b z.n_b z.start z.end g h (no c.are_doubles.ensures c.if-not-are_doubles.true-raw)
 
 pub overflow_sub-n : goal.overflow_sub-n
 overflow_sub-n c =
     let z = c.args in
     let g = sym c.pair_ground-refusal.ensures ∙ c.if-refusal-ne0.false in
-    let e = ap₂ ◌&&◌ (c.is_range-inside.ensures ∙ range_as z.lengths.now z.places.now z.buffers.now z.body.now z.first-a z.start z.end) (c.is_range-inside2.ensures ∙ range_as z.lengths.now z.places.now z.buffers.now z.body.now z.first-b z.start z.end) in
+    let e = ap₂ ◌&&◌ (c.is_range-inside.ensures ∙ range_as z.lengths.now z.places.now z.buffers.now z.body.now z.first_a z.start z.end) (c.is_range-inside2.ensures ∙ range_as z.lengths.now z.places.now z.buffers.now z.body.now z.first_b z.start z.end) in
     let h = yes e c.if-not-inside-inside2.false-raw in
-    (range_known (tables_of z.lengths.now z.places.now z.buffers.now z.body.now) z.first-a z.start z.end (and_left (range_in (tables_of z.lengths.now z.places.now z.buffers.now z.body.now) z.first-a z.start z.end) (range_in (tables_of z.lengths.now z.places.now z.buffers.now z.body.now) z.first-b z.start z.end) h)).0
+    (range_known (tables_of z.lengths.now z.places.now z.buffers.now z.body.now) z.first_a z.start z.end (and_left (range_in (tables_of z.lengths.now z.places.now z.buffers.now z.body.now) z.first_a z.start z.end) (range_in (tables_of z.lengths.now z.places.now z.buffers.now z.body.now) z.first_b z.start z.end) h)).0
 
 pub frame_nodes-requires : goal.frame_nodes-requires
 frame_nodes-requires c =
     let z = c.args in
     let g = sym c.pair_ground-refusal.ensures ∙ c.if-refusal-ne0.false in
-    let e = ap₂ ◌&&◌ (c.is_range-inside.ensures ∙ range_as z.lengths.now z.places.now z.buffers.now z.body.now z.first-a z.start z.end) (c.is_range-inside2.ensures ∙ range_as z.lengths.now z.places.now z.buffers.now z.body.now z.first-b z.start z.end) in
+    let e = ap₂ ◌&&◌ (c.is_range-inside.ensures ∙ range_as z.lengths.now z.places.now z.buffers.now z.body.now z.first_a z.start z.end) (c.is_range-inside2.ensures ∙ range_as z.lengths.now z.places.now z.buffers.now z.body.now z.first_b z.start z.end) in
     let h = yes e c.if-not-inside-inside2.false-raw in
     let d = yes c.are_doubles.ensures c.if-not-are_doubles.false-raw in
-    let o = pair_none (column_ground z.formats.now z.schema.now (tables_of z.lengths.now z.places.now z.buffers.now z.body.now) z.first-a z.n-a) (column_ground z.formats.now z.schema.now (tables_of z.lengths.now z.places.now z.buffers.now z.body.now) z.first-b z.n-b) g in
-    let r = range_known (tables_of z.lengths.now z.places.now z.buffers.now z.body.now) z.first-a z.start z.end (and_left (range_in (tables_of z.lengths.now z.places.now z.buffers.now z.body.now) z.first-a z.start z.end) (range_in (tables_of z.lengths.now z.places.now z.buffers.now z.body.now) z.first-b z.start z.end) h) in
-    let s = range_known (tables_of z.lengths.now z.places.now z.buffers.now z.body.now) z.first-b z.start z.end (and_right (range_in (tables_of z.lengths.now z.places.now z.buffers.now z.body.now) z.first-a z.start z.end) (range_in (tables_of z.lengths.now z.places.now z.buffers.now z.body.now) z.first-b z.start z.end) h) in
-    let p = placed z.formats.now z.schema.now (tables_of z.lengths.now z.places.now z.buffers.now z.body.now) z.first-a z.n-a o.0 (and_left (is_double z.formats.now z.schema.now z.first-a z.n-a) (is_double z.formats.now z.schema.now z.first-b z.n-b) d) z.end r.1 in
-    let q = placed z.formats.now z.schema.now (tables_of z.lengths.now z.places.now z.buffers.now z.body.now) z.first-b z.n-b o.1 (and_right (is_double z.formats.now z.schema.now z.first-a z.n-a) (is_double z.formats.now z.schema.now z.first-b z.n-b) d) z.end s.1 in
-    record { a_bound = (omega arith, omega arith); placed = placed_to z.lengths.now z.places.now z.buffers.now z.body.now z.first-a z.start z.end r.0 p; placed_2 = placed_to z.lengths.now z.places.now z.buffers.now z.body.now z.first-b z.start z.end r.0 q }
+    let o = pair_none (column_ground z.formats.now z.schema.now (tables_of z.lengths.now z.places.now z.buffers.now z.body.now) z.first_a z.n_a) (column_ground z.formats.now z.schema.now (tables_of z.lengths.now z.places.now z.buffers.now z.body.now) z.first_b z.n_b) g in
+    let r = range_known (tables_of z.lengths.now z.places.now z.buffers.now z.body.now) z.first_a z.start z.end (and_left (range_in (tables_of z.lengths.now z.places.now z.buffers.now z.body.now) z.first_a z.start z.end) (range_in (tables_of z.lengths.now z.places.now z.buffers.now z.body.now) z.first_b z.start z.end) h) in
+    let s = range_known (tables_of z.lengths.now z.places.now z.buffers.now z.body.now) z.first_b z.start z.end (and_right (range_in (tables_of z.lengths.now z.places.now z.buffers.now z.body.now) z.first_a z.start z.end) (range_in (tables_of z.lengths.now z.places.now z.buffers.now z.body.now) z.first_b z.start z.end) h) in
+    let p = placed z.formats.now z.schema.now (tables_of z.lengths.now z.places.now z.buffers.now z.body.now) z.first_a z.n_a o.0 (and_left (is_double z.formats.now z.schema.now z.first_a z.n_a) (is_double z.formats.now z.schema.now z.first_b z.n_b) d) z.end r.1 in
+    let q = placed z.formats.now z.schema.now (tables_of z.lengths.now z.places.now z.buffers.now z.body.now) z.first_b z.n_b o.1 (and_right (is_double z.formats.now z.schema.now z.first_a z.n_a) (is_double z.formats.now z.schema.now z.first_b z.n_b) d) z.end s.1 in
+    record { a_bound = (omega arith, omega arith); placed = placed_to z.lengths.now z.places.now z.buffers.now z.body.now z.first_a z.start z.end r.0 p; placed_2 = placed_to z.lengths.now z.places.now z.buffers.now z.body.now z.first_b z.start z.end r.0 q }
 
 pub returns : goal.returns
 returns c =
     let z = c.args in
     let g = sym c.pair_ground-refusal.ensures ∙ c.if-refusal-ne0.false in
-    let e = ap₂ ◌&&◌ (c.is_range-inside.ensures ∙ range_as z.lengths.now z.places.now z.buffers.now z.body.now z.first-a z.start z.end) (c.is_range-inside2.ensures ∙ range_as z.lengths.now z.places.now z.buffers.now z.body.now z.first-b z.start z.end) in
+    let e = ap₂ ◌&&◌ (c.is_range-inside.ensures ∙ range_as z.lengths.now z.places.now z.buffers.now z.body.now z.first_a z.start z.end) (c.is_range-inside2.ensures ∙ range_as z.lengths.now z.places.now z.buffers.now z.body.now z.first_b z.start z.end) in
     let h = yes e c.if-not-inside-inside2.false-raw in
     let d = yes c.are_doubles.ensures c.if-not-are_doubles.false-raw in
-    c.frame_nodes.ensures ∙ ap (λ ss. found (framed ss)) (stops_are z.formats.now z.schema.now (tables_of z.lengths.now z.places.now z.buffers.now z.body.now) z.first-a z.n-a z.first-b z.n-b g d z.start (z.end - z.start)) ∙ box_rows z.formats.now z.schema.now (tables_of z.lengths.now z.places.now z.buffers.now z.body.now) z.first-a z.n-a z.first-b z.n-b z.start z.end g h d
+    c.frame_nodes.ensures ∙ ap (λ ss. found (framed ss)) (stops_are z.formats.now z.schema.now (tables_of z.lengths.now z.places.now z.buffers.now z.body.now) z.first_a z.n_a z.first_b z.n_b g d z.start (z.end - z.start)) ∙ box_rows z.formats.now z.schema.now (tables_of z.lengths.now z.places.now z.buffers.now z.body.now) z.first_a z.n_a z.first_b z.n_b z.start z.end g h d

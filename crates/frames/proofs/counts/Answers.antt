@@ -30,5 +30,5 @@ pub returns : goal.returns
 unfolding item
 returns c =
     ap₂ ◌&&◌
-    (ap₂ ◌&&◌ c.is_valid-valid.ensures (c.is_number-number.ensures ∙ ap (λ p. not (nan_bits binary64 p)) c.read_u64.ensures) ∙ slot_number (ok (mask_of c.args.lat-masked c.args.lat-mask.now) c.args.a) (item 8 c.args.lat.now c.args.a))
-    (ap₂ ◌&&◌ c.is_valid-valid2.ensures (c.is_number-number2.ensures ∙ ap (λ p. not (nan_bits binary64 p)) c.read_u64-2.ensures) ∙ slot_number (ok (mask_of c.args.lon-masked c.args.lon-mask.now) c.args.b) (item 8 c.args.lon.now c.args.b))
+    (ap₂ ◌&&◌ c.is_valid-valid.ensures (c.is_number-number.ensures ∙ ap (λ p. not (nan_bits binary64 p)) c.read_u64.ensures) ∙ slot_number (ok (mask_of c.args.lat_masked c.args.lat_mask.now) c.args.a) (item 8 c.args.lat.now c.args.a))
+    (ap₂ ◌&&◌ c.is_valid-valid2.ensures (c.is_number-number2.ensures ∙ ap (λ p. not (nan_bits binary64 p)) c.read_u64-2.ensures) ∙ slot_number (ok (mask_of c.args.lon_masked c.args.lon_mask.now) c.args.b) (item 8 c.args.lon.now c.args.b))

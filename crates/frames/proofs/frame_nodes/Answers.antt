@@ -10,16 +10,16 @@ use Rattle.frames.proofs.Slots.{fewer, mask_order, values_are, masks_are, node_h
 use Rattle.frames.proofs.frame_nodes.Goals as goal
 
 pub overflow_add-lat_end : goal.overflow_add-lat_end
-overflow_add-lat_end c = omega (arith, c.place-lat.ensures, c.place.ensures, c.requires.placed.values-in)
+overflow_add-lat_end c = omega (arith, c.place-lat.ensures, c.place.ensures, c.requires.placed.values_in)
 
 pub overflow_add-lon_end : goal.overflow_add-lon_end
-overflow_add-lon_end c = omega (arith, c.place-lon.ensures, c.place-2.ensures, c.requires.placed_2.values-in)
+overflow_add-lon_end c = omega (arith, c.place-lon.ensures, c.place-2.ensures, c.requires.placed_2.values_in)
 
 pub mask_of-lat_mask-requires : goal.mask_of-lat_mask-requires
-mask_of-lat_mask-requires c = record { k_bound = c.requires.a_bound.0; k_bound_2 = omega (arith, c.requires.placed.mask-in) }
+mask_of-lat_mask-requires c = record { k_bound = c.requires.a_bound.0; k_bound_2 = omega (arith, c.requires.placed.mask_in_lem) }
 
 pub mask_of-lon_mask-requires : goal.mask_of-lon_mask-requires
-mask_of-lon_mask-requires c = record { k_bound = c.requires.a_bound.1; k_bound_2 = omega (arith, c.requires.placed_2.mask-in) }
+mask_of-lon_mask-requires c = record { k_bound = c.requires.a_bound.1; k_bound_2 = omega (arith, c.requires.placed_2.mask_in_lem) }
 
 pub slice_bounds-frame_rows-count : goal.slice_bounds-frame_rows-count
 slice_bounds-frame_rows-count c = omega arith
@@ -28,7 +28,7 @@ pub slice_bounds-frame_rows-start : goal.slice_bounds-frame_rows-start
 slice_bounds-frame_rows-start c = omega arith
 
 pub slice_bounds-frame_rows-end : goal.slice_bounds-frame_rows-end
-slice_bounds-frame_rows-end c = omega (arith, c.place-lat.ensures, c.place.ensures, c.requires.placed.values-in)
+slice_bounds-frame_rows-end c = omega (arith, c.place-lat.ensures, c.place.ensures, c.requires.placed.values_in)
 
 pub slice_bounds-frame_rows-count-2 : goal.slice_bounds-frame_rows-count-2
 slice_bounds-frame_rows-count-2 c = subst (λ z. z.at ≤ z.end) (sym c.mask_of-lat_mask.ensures) (mask_order (tables c.args.lengths.now c.args.places.now c.args.body.now) c.args.a)
@@ -37,7 +37,7 @@ pub slice_bounds-frame_rows-start-2 : goal.slice_bounds-frame_rows-start-2
 slice_bounds-frame_rows-start-2 c = subst (λ z. z.at ≤ z.end) (sym c.mask_of-lat_mask.ensures) (mask_order (tables c.args.lengths.now c.args.places.now c.args.body.now) c.args.a)
 
 pub slice_bounds-frame_rows-end-2 : goal.slice_bounds-frame_rows-end-2
-slice_bounds-frame_rows-end-2 c = subst (λ z. z.end ≤ length c.args.body.now) (sym c.mask_of-lat_mask.ensures) c.requires.placed.mask-in
+slice_bounds-frame_rows-end-2 c = subst (λ z. z.end ≤ length c.args.body.now) (sym c.mask_of-lat_mask.ensures) c.requires.placed.mask_in_lem
 
 pub slice_bounds-frame_rows-count-3 : goal.slice_bounds-frame_rows-count-3
 slice_bounds-frame_rows-count-3 c = omega arith
@@ -46,7 +46,7 @@ pub slice_bounds-frame_rows-start-3 : goal.slice_bounds-frame_rows-start-3
 slice_bounds-frame_rows-start-3 c = omega arith
 
 pub slice_bounds-frame_rows-end-3 : goal.slice_bounds-frame_rows-end-3
-slice_bounds-frame_rows-end-3 c = omega (arith, c.place-lon.ensures, c.place-2.ensures, c.requires.placed_2.values-in)
+slice_bounds-frame_rows-end-3 c = omega (arith, c.place-lon.ensures, c.place-2.ensures, c.requires.placed_2.values_in)
 
 pub slice_bounds-frame_rows-count-4 : goal.slice_bounds-frame_rows-count-4
 slice_bounds-frame_rows-count-4 c = subst (λ z. z.at ≤ z.end) (sym c.mask_of-lon_mask.ensures) (mask_order (tables c.args.lengths.now c.args.places.now c.args.body.now) c.args.b)
@@ -55,19 +55,19 @@ pub slice_bounds-frame_rows-start-4 : goal.slice_bounds-frame_rows-start-4
 slice_bounds-frame_rows-start-4 c = subst (λ z. z.at ≤ z.end) (sym c.mask_of-lon_mask.ensures) (mask_order (tables c.args.lengths.now c.args.places.now c.args.body.now) c.args.b)
 
 pub slice_bounds-frame_rows-end-4 : goal.slice_bounds-frame_rows-end-4
-slice_bounds-frame_rows-end-4 c = subst (λ z. z.end ≤ length c.args.body.now) (sym c.mask_of-lon_mask.ensures) c.requires.placed_2.mask-in
+slice_bounds-frame_rows-end-4 c = subst (λ z. z.end ≤ length c.args.body.now) (sym c.mask_of-lon_mask.ensures) c.requires.placed_2.mask_in_lem
 
 pub offset_of-requires : goal.offset_of-requires
 offset_of-requires c = c.requires.a_bound.0
 
 pub overflow_add-offset_of : goal.overflow_add-offset_of
-overflow_add-offset_of c = omega (arith, c.offset_of.ensures, c.requires.placed.values-hold, c.requires.placed.values-in)
+overflow_add-offset_of c = omega (arith, c.offset_of.ensures, c.requires.placed.values_hold, c.requires.placed.values_in)
 
 pub offset_of-requires-2 : goal.offset_of-requires-2
 offset_of-requires-2 c = c.requires.a_bound.1
 
 pub overflow_add-offset_of-2 : goal.overflow_add-offset_of-2
-overflow_add-offset_of-2 c = omega (arith, c.offset_of-2.ensures, c.requires.placed_2.values-hold, c.requires.placed_2.values-in)
+overflow_add-offset_of-2 c = omega (arith, c.offset_of-2.ensures, c.requires.placed_2.values_hold, c.requires.placed_2.values_in)
 
 pub frame_rows-requires : goal.frame_rows-requires
 frame_rows-requires c =

@@ -15,7 +15,7 @@ pass_over-k-requires c = record { holds = c.requires.holds; holds_2 = c.requires
 pub returns-then-k-n : goal.returns-then-k-n
 returns-then-k-n c =
     let z = c.args in
-    all_passed (λ j. slot_stop z.lat.now (mask_of z.lat-masked z.lat-mask.now) z.lon.now (mask_of z.lon-masked z.lon-mask.now) (z.a + j) (z.b + j)) z.n c.pass_over-k.ensures c.if-k-n.true
+    all_passed (λ j. slot_stop z.lat.now (mask_of z.lat_masked z.lat_mask.now) z.lon.now (mask_of z.lon_masked z.lon_mask.now) (z.a + j) (z.b + j)) z.n c.pass_over-k.ensures c.if-k-n.true
 
 pub overflow_add-p : goal.overflow_add-p
 overflow_add-p c = omega (arith, c.requires.holds.numbers, c.pass_over-k.ensures.some_left)
@@ -28,7 +28,7 @@ frame_at-f-requires c =
     let z = c.args in
     let k = c.pass_over-k.result in
     let l : k < z.n = omega (arith, c.pass_over-k.ensures.some_left, c.if-k-n.false) in
-    let h = c.pass_over-k.ensures.next-counts l in record { a_in_bounds = (omega (arith, c.requires.holds.numbers), lat_known z.lat.now (mask_of z.lat-masked z.lat-mask.now) z.lon.now (mask_of z.lon-masked z.lon-mask.now) (z.a + k) (z.b + k) h); b_in_bounds = (omega (arith, c.requires.holds_2.numbers), lon_known z.lat.now (mask_of z.lat-masked z.lat-mask.now) z.lon.now (mask_of z.lon-masked z.lon-mask.now) (z.a + k) (z.b + k) h) }
+    let h = c.pass_over-k.ensures.next_counts l in record { a_in_bounds = (omega (arith, c.requires.holds.numbers), lat_known z.lat.now (mask_of z.lat_masked z.lat_mask.now) z.lon.now (mask_of z.lon_masked z.lon_mask.now) (z.a + k) (z.b + k) h); b_in_bounds = (omega (arith, c.requires.holds_2.numbers), lon_known z.lat.now (mask_of z.lat_masked z.lat_mask.now) z.lon.now (mask_of z.lon_masked z.lon_mask.now) (z.a + k) (z.b + k) h) }
 
 pub overflow_sub-left : goal.overflow_sub-left
 overflow_sub-left c = omega (arith, c.pass_over-k.ensures.some_left)
@@ -59,8 +59,8 @@ returns c =
     let z = c.args in
     let k = c.pass_over-k.result in
     let l : k < z.n = omega (arith, c.pass_over-k.ensures.some_left, c.if-k-n.false) in
-    let h = c.pass_over-k.ensures.next-counts l in
+    let h = c.pass_over-k.ensures.next_counts l in
     let left : z.n - k - 1 ≡ z.n - (k + 1) = omega arith in
-    let f = c.frame_at-f.ensures ∙ its_frame z.lat.now (mask_of z.lat-masked z.lat-mask.now) z.lon.now (mask_of z.lon-masked z.lon-mask.now) (z.a + k) (z.b + k) h in
-    let rows = rows_behind z.lat.now (mask_of z.lat-masked z.lat-mask.now) z.lon.now (mask_of z.lon-masked z.lon-mask.now) z.a z.b k (z.n - k - 1) ∙ ap (seg (λ j. slot_stop z.lat.now (mask_of z.lat-masked z.lat-mask.now) z.lon.now (mask_of z.lon-masked z.lon-mask.now) (z.a + j) (z.b + j)) (k + 1)) left in
-    ap boxed.Within (c.widen_by.ensures ∙ ap₂ widened_by f rows) ∙ first_counted (λ j. slot_stop z.lat.now (mask_of z.lat-masked z.lat-mask.now) z.lon.now (mask_of z.lon-masked z.lon-mask.now) (z.a + j) (z.b + j)) z.n c.pass_over-k.ensures l
+    let f = c.frame_at-f.ensures ∙ its_frame z.lat.now (mask_of z.lat_masked z.lat_mask.now) z.lon.now (mask_of z.lon_masked z.lon_mask.now) (z.a + k) (z.b + k) h in
+    let rows = rows_behind z.lat.now (mask_of z.lat_masked z.lat_mask.now) z.lon.now (mask_of z.lon_masked z.lon_mask.now) z.a z.b k (z.n - k - 1) ∙ ap (seg (λ j. slot_stop z.lat.now (mask_of z.lat_masked z.lat_mask.now) z.lon.now (mask_of z.lon_masked z.lon_mask.now) (z.a + j) (z.b + j)) (k + 1)) left in
+    ap boxed.Within (c.widen_by.ensures ∙ ap₂ widened_by f rows) ∙ first_counted (λ j. slot_stop z.lat.now (mask_of z.lat_masked z.lat_mask.now) z.lon.now (mask_of z.lon_masked z.lon_mask.now) (z.a + j) (z.b + j)) z.n c.pass_over-k.ensures l

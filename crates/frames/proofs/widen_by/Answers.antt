@@ -9,7 +9,7 @@ use Rattle.frames.proofs.widen_by.Goals as goal
 pub loop-k-init : goal.loop-k-init
 loop-k-init c =
     let z = c.args in
-    (omega arith, rows_start (λ j. slot_stop z.lat.now (mask_of z.lat-masked z.lat-mask.now) z.lon.now (mask_of z.lon-masked z.lon-mask.now) (z.a + j) (z.b + j)) z.f z.n)
+    (omega arith, rows_start (λ j. slot_stop z.lat.now (mask_of z.lat_masked z.lat_mask.now) z.lon.now (mask_of z.lon_masked z.lon_mask.now) (z.a + j) (z.b + j)) z.f z.n)
 
 pub overflow_add-a : goal.overflow_add-a
 overflow_add-a c = omega (arith, c.requires.holds.numbers)
@@ -29,9 +29,9 @@ loop-k-smaller c = omega arith
 pub loop-k-preserved : goal.loop-k-preserved
 loop-k-preserved c =
     let z = c.args in
-    (omega arith, sym (rows_next (λ j. slot_stop z.lat.now (mask_of z.lat-masked z.lat-mask.now) z.lon.now (mask_of z.lon-masked z.lon-mask.now) (z.a + j) (z.b + j)) c.loop-k.frame c.widen_row-frame.result c.loop-k.k z.n (omega arith) c.widen_row-frame.ensures) ∙ c.loop-k.invariant.1)
+    (omega arith, sym (rows_next (λ j. slot_stop z.lat.now (mask_of z.lat_masked z.lat_mask.now) z.lon.now (mask_of z.lon_masked z.lon_mask.now) (z.a + j) (z.b + j)) c.loop-k.frame c.widen_row-frame.result c.loop-k.k z.n (omega arith) c.widen_row-frame.ensures) ∙ c.loop-k.invariant.1)
 
 pub returns : goal.returns
 returns c =
     let z = c.args in
-    rows_done (λ j. slot_stop z.lat.now (mask_of z.lat-masked z.lat-mask.now) z.lon.now (mask_of z.lon-masked z.lon-mask.now) (z.a + j) (z.b + j)) c.loop-k.frame _ c.loop-k.k z.n (omega arith) c.loop-k.invariant.1
+    rows_done (λ j. slot_stop z.lat.now (mask_of z.lat_masked z.lat_mask.now) z.lon.now (mask_of z.lon_masked z.lon_mask.now) (z.a + j) (z.b + j)) c.loop-k.frame _ c.loop-k.k z.n (omega arith) c.loop-k.invariant.1

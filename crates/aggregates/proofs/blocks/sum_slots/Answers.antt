@@ -3,25 +3,19 @@ use Rattle.std.proofs.Common.{◌+◌, ◌*◌, ◌≤◌, length, arith}
 use Rattle.aggregates.proofs.blocks.Sums.{ends_in_lem, tallied, all_block}
 use Rattle.aggregates.proofs.blocks.sum_slots.Goals as goal
 
--- the block stands within the body
-ends : (c : tie.After-struct-known) → c.before.before.args.c.start + c.before.before.args.slot * c.before.before.args.c.width + c.before.before.args.n * c.before.before.args.c.width ≤ length c.before.before.args.body.now
-ends c =
-    let s = c.before.before in
-    ends_in_lem s.args.c.start s.args.slot s.args.c.width s.args.n _ s.requires.0 s.requires.2.holds
-
 pub overflow_cast-at : goal.overflow_cast-at
 overflow_cast-at c = omega arith
 
 pub overflow_mul-at : goal.overflow_mul-at
-overflow_mul-at c = omega (arith, ends c)
+overflow_mul-at c = omega (arith, (let fact : c.args.c.start + c.args.slot * c.args.c.width + c.args.n * c.args.c.width ≤ length c.args.body.now = ends_in_lem c.args.c.start c.args.slot c.args.c.width c.args.n _ c.requires.0 c.requires.2.holds in fact))
 
 pub overflow_add-at : goal.overflow_add-at
-overflow_add-at c = omega (arith, ends c)
+overflow_add-at c = omega (arith, (let fact : c.args.c.start + c.args.slot * c.args.c.width + c.args.n * c.args.c.width ≤ length c.args.body.now = ends_in_lem c.args.c.start c.args.slot c.args.c.width c.args.n _ c.requires.0 c.requires.2.holds in fact))
 
 pub sum_all-p-requires : goal.sum_all-p-requires
 sum_all-p-requires c =
     let h = c.requires.2 in
-    (h.sized, c.requires.1, ends c)
+    (h.sized, c.requires.1, (let fact : c.args.c.start + c.args.slot * c.args.c.width + c.args.n * c.args.c.width ≤ length c.args.body.now = ends_in_lem c.args.c.start c.args.slot c.args.c.width c.args.n _ c.requires.0 c.requires.2.holds in fact))
 
 pub tally_of-requires : goal.tally_of-requires
 tally_of-requires c =

@@ -5,12 +5,6 @@ use Rattle.aggregates.proofs.cell_sums.Laws.{before_any, at_end, nearer, same_st
 use Rattle.aggregates.proofs.cell_sums.Plain.{join_room, join_on, part_ready, block_stop, block_fits, rows_low}
 use Rattle.aggregates.proofs.cell_sums.sum_blocks.Goals as goal
 
--- where the block ends
-stop_of : (c : tie.After-lesser invariant-loop decreases-loop) → (c.before.before.loop.row < c.lesser.result)
-    × (c.lesser.result ≤ c.before.before.loop.row + block_rows)
-    × (c.lesser.result ≤ c.before.before.before.before.before.args.end)
-stop_of c = block_stop _ _ _ c.lesser.ensures c.before.loop-test.true
-
 pub loop-row-init : goal.loop-row-init
 loop-row-init c = (same_start c.args.start, c.requires.start_le_end.0, before_any _ c.args.start _ c.nothing-t.ensures)
 
@@ -21,22 +15,22 @@ overflow_add-row c =
 pub sum_block-requires : goal.sum_block-requires
 sum_block-requires c =
     let l = c.loop-row in
-    record { row_lt_stop = ((stop_of c).0, (stop_of c).1, c.requires.start_le_end.2, c.requires.start_le_end.3); all_ready = part_ready c.args.body.now c.args.a c.args.start c.args.end l.row _ c.requires.all_ready l.invariant.0 (stop_of c).2 }
+    record { row_lt_stop = (((let fact : (c.loop-row.row < c.lesser-stop.result) × (c.lesser-stop.result ≤ c.loop-row.row + block_rows) × (c.lesser-stop.result ≤ c.args.end) = block_stop _ _ _ c.lesser-stop.ensures c.loop-row-test.true in fact)).0, ((let fact : (c.loop-row.row < c.lesser-stop.result) × (c.lesser-stop.result ≤ c.loop-row.row + block_rows) × (c.lesser-stop.result ≤ c.args.end) = block_stop _ _ _ c.lesser-stop.ensures c.loop-row-test.true in fact)).1, c.requires.start_le_end.2, c.requires.start_le_end.3); all_ready = part_ready c.args.body.now c.args.a c.args.start c.args.end l.row _ c.requires.all_ready l.invariant.0 ((let fact : (c.loop-row.row < c.lesser-stop.result) × (c.lesser-stop.result ≤ c.loop-row.row + block_rows) × (c.lesser-stop.result ≤ c.args.end) = block_stop _ _ _ c.lesser-stop.ensures c.loop-row-test.true in fact)).2 }
 
 pub joined-t-requires : goal.joined-t-requires
 joined-t-requires c =
     let l = c.loop-row in
-    join_room l.invariant.2 c.sum_block.ensures (rows_low _ _ _ _ l.invariant.0 (in_order_lem _ _ (stop_of c).0) (stop_of c).2 c.requires.start_le_end.1)
+    join_room l.invariant.2 c.sum_block.ensures (rows_low _ _ _ _ l.invariant.0 (in_order_lem _ _ ((let fact : (c.loop-row.row < c.lesser-stop.result) × (c.lesser-stop.result ≤ c.loop-row.row + block_rows) × (c.lesser-stop.result ≤ c.args.end) = block_stop _ _ _ c.lesser-stop.ensures c.loop-row-test.true in fact)).0) ((let fact : (c.loop-row.row < c.lesser-stop.result) × (c.lesser-stop.result ≤ c.loop-row.row + block_rows) × (c.lesser-stop.result ≤ c.args.end) = block_stop _ _ _ c.lesser-stop.ensures c.loop-row-test.true in fact)).2 c.requires.start_le_end.1)
 
 pub loop-row-smaller : goal.loop-row-smaller
-loop-row-smaller c = nearer _ _ _ (stop_of c).0 (stop_of c).2
+loop-row-smaller c = nearer _ _ _ ((let fact : (c.loop-row.row < c.lesser-stop.result) × (c.lesser-stop.result ≤ c.loop-row.row + block_rows) × (c.lesser-stop.result ≤ c.args.end) = block_stop _ _ _ c.lesser-stop.ensures c.loop-row-test.true in fact)).0 ((let fact : (c.loop-row.row < c.lesser-stop.result) × (c.lesser-stop.result ≤ c.loop-row.row + block_rows) × (c.lesser-stop.result ≤ c.args.end) = block_stop _ _ _ c.lesser-stop.ensures c.loop-row-test.true in fact)).2
 
 pub loop-row-preserved : goal.loop-row-preserved
 loop-row-preserved c =
     let l = c.loop-row in (
-      further _ l.row _ l.invariant.0 (stop_of c).0,
-      (stop_of c).2,
-      join_on _ c.args.start l.row _ _ _ _ l.invariant.0 (in_order_lem _ _ (stop_of c).0) l.invariant.2 c.sum_block.ensures c.joined-t.ensures,
+      further _ l.row _ l.invariant.0 ((let fact : (c.loop-row.row < c.lesser-stop.result) × (c.lesser-stop.result ≤ c.loop-row.row + block_rows) × (c.lesser-stop.result ≤ c.args.end) = block_stop _ _ _ c.lesser-stop.ensures c.loop-row-test.true in fact)).0,
+      ((let fact : (c.loop-row.row < c.lesser-stop.result) × (c.lesser-stop.result ≤ c.loop-row.row + block_rows) × (c.lesser-stop.result ≤ c.args.end) = block_stop _ _ _ c.lesser-stop.ensures c.loop-row-test.true in fact)).2,
+      join_on _ c.args.start l.row _ _ _ _ l.invariant.0 (in_order_lem _ _ ((let fact : (c.loop-row.row < c.lesser-stop.result) × (c.lesser-stop.result ≤ c.loop-row.row + block_rows) × (c.lesser-stop.result ≤ c.args.end) = block_stop _ _ _ c.lesser-stop.ensures c.loop-row-test.true in fact)).0) l.invariant.2 c.sum_block.ensures c.joined-t.ensures,
     )
 
 pub returns : goal.returns

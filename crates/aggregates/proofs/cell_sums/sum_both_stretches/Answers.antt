@@ -5,11 +5,6 @@ use Rattle.aggregates.proofs.cell_sums.Steps.{fewer_of_both}
 use Rattle.aggregates.proofs.cell_sums.Laws.{turn, room, room_of, before_any, at_end, row_low, same_start, stop_low, in_order_lem, further, none_flat, later_flat, both_flat, least_above, least_first, least_second, least_end}
 use Rattle.aggregates.proofs.cell_sums.sum_both_stretches.Goals as goal
 
--- where the turn stops
-stops : (c : tie.After-lesser2 invariant-loop decreases-loop) → c.before.before.before.before.before.before.before.loop.row < c.lesser2.result
-stops c =
-    least_above _ _ _ _ _ _ c.before.lesser.ensures c.lesser2.ensures c.before.before.before.before.before.next-stretch.ensures.0 c.before.before.before.before.next-stretch2.ensures.0 c.before.before.before.before.before.before.loop-test.true
-
 pub loop-row-init : goal.loop-row-init
 loop-row-init c =
     let p = c.no_stretch-p in
@@ -38,23 +33,23 @@ pub masked-requires : goal.masked-requires
 masked-requires c = c.next_stretch-p.ensures.1.bounded
 
 pub overflow_sub-stop : goal.overflow_sub-stop
-overflow_sub-stop c = in_order_lem _ _ (stops c)
+overflow_sub-stop c = in_order_lem _ _ ((let fact : c.loop-row.row < c.lesser-stop.result = least_above _ _ _ _ _ _ c.lesser.ensures c.lesser-stop.ensures c.next_stretch-p.ensures.0 c.next_stretch-q.ensures.0 c.loop-row-test.true in fact))
 
 pub added-t-requires : goal.added-t-requires
 added-t-requires c =
     let l = c.loop-row in
-    record { count_bound = room_of _ c.masked.ensures.1; n_bound = room _ c.args.start l.row _ _ l.invariant.2 (stop_low _ _ _ (stops c) (least_end l.row _ _ _ _ _ c.lesser.ensures c.lesser-stop.ensures) c.requires.start_le_end.1) }
+    record { count_bound = room_of _ c.masked.ensures.1; n_bound = room _ c.args.start l.row _ _ l.invariant.2 (stop_low _ _ _ ((let fact : c.loop-row.row < c.lesser-stop.result = least_above _ _ _ _ _ _ c.lesser.ensures c.lesser-stop.ensures c.next_stretch-p.ensures.0 c.next_stretch-q.ensures.0 c.loop-row-test.true in fact)) (least_end l.row _ _ _ _ _ c.lesser.ensures c.lesser-stop.ensures) c.requires.start_le_end.1) }
 
 pub masked-requires-in-loop-row : goal.masked-requires-in-loop-row
 masked-requires-in-loop-row c = c.next_stretch-q.ensures.1.bounded
 
 pub overflow_sub-stop-in-loop-row : goal.overflow_sub-stop-in-loop-row
-overflow_sub-stop-in-loop-row c = in_order_lem _ _ (stops c)
+overflow_sub-stop-in-loop-row c = in_order_lem _ _ ((let fact : c.loop-row.row < c.lesser-stop.result = least_above _ _ _ _ _ _ c.lesser.ensures c.lesser-stop.ensures c.next_stretch-p.ensures.0 c.next_stretch-q.ensures.0 c.loop-row-test.true in fact))
 
 pub added-u-requires : goal.added-u-requires
 added-u-requires c =
     let l = c.loop-row in
-    record { count_bound = room_of _ c.masked-in-loop-row.ensures.1; n_bound = room _ c.args.start l.row _ _ l.invariant.3 (stop_low _ _ _ (stops c) (least_end l.row _ _ _ _ _ c.lesser.ensures c.lesser-stop.ensures) c.requires.start_le_end.1) }
+    record { count_bound = room_of _ c.masked-in-loop-row.ensures.1; n_bound = room _ c.args.start l.row _ _ l.invariant.3 (stop_low _ _ _ ((let fact : c.loop-row.row < c.lesser-stop.result = least_above _ _ _ _ _ _ c.lesser.ensures c.lesser-stop.ensures c.next_stretch-p.ensures.0 c.next_stretch-q.ensures.0 c.loop-row-test.true in fact)) (least_end l.row _ _ _ _ _ c.lesser.ensures c.lesser-stop.ensures) c.requires.start_le_end.1) }
 
 pub loop-row-smaller : goal.loop-row-smaller
 loop-row-smaller c =
@@ -72,8 +67,8 @@ loop-row-preserved c =
     let k = c.masked-in-loop-row.ensures in
     let one = least_first l.row _ _ _ _ _ c.lesser.ensures c.lesser-stop.ensures in
     let two = least_second l.row _ _ _ _ _ c.lesser.ensures c.lesser-stop.ensures in
-    let far = in_order_lem _ _ (stops c) in (
-      further _ _ _ l.invariant.0 (stops c),
+    let far = in_order_lem _ _ ((let fact : c.loop-row.row < c.lesser-stop.result = least_above _ _ _ _ _ _ c.lesser.ensures c.lesser-stop.ensures c.next_stretch-p.ensures.0 c.next_stretch-q.ensures.0 c.loop-row-test.true in fact)) in (
+      further _ _ _ l.invariant.0 ((let fact : c.loop-row.row < c.lesser-stop.result = least_above _ _ _ _ _ _ c.lesser.ensures c.lesser-stop.ensures c.next_stretch-p.ensures.0 c.next_stretch-q.ensures.0 c.loop-row-test.true in fact)),
       least_end l.row _ _ _ _ _ c.lesser.ensures c.lesser-stop.ensures,
       turn _ c.args.start l.row _ _ _ _ l.invariant.0 far l.invariant.2 m.1 (both_flat _ _ l.row _ p.result q.result p.ensures.1 q.ensures.1 one two _ m.0) c.added-t.ensures,
       turn _ c.args.start l.row _ _ _ _ l.invariant.0 far l.invariant.3 k.1 (both_flat _ _ l.row _ q.result p.result q.ensures.1 p.ensures.1 two one _ k.0) c.added-u.ensures,

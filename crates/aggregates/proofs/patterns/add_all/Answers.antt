@@ -4,13 +4,6 @@ use Rattle.aggregates.specs.patterns.Parts.{top_bit, up_to}
 use Rattle.aggregates.proofs.patterns.Laws.{up_none, up_more, up_ones, some_bytes, one_top, read_lt, within, low_room, high_room, one_room, low_most, high_most, one_most}
 use Rattle.aggregates.proofs.patterns.add_all.Goals as goal
 
--- the top bit of the number that was read
-top_of : (c : tie.After-read-pattern invariant-loop decreases-loop) → c.read-pattern.result / 2 ^ top_bit c.before.before.before.before.args.w ≤ 1
-top_of c =
-    let k = c.before.before.before in
-    let s = k.before in
-    one_top _ s.args.w s.requires.0 (read_lt s.args.body.now (λ j. (k.shared-slice-known.given j).fits) (s.args.at + c.before.before.loop.i * s.args.w) s.args.w _ c.read-pattern.ensures)
-
 pub overflow_mul-top : goal.overflow_mul-top
 overflow_mul-top c = omega (arith, (some_bytes _ c.requires.0).1)
 
@@ -51,7 +44,7 @@ overflow_shr-below c = omega (arith, (some_bytes _ c.requires.0).1)
 pub overflow_add-below : goal.overflow_add-below
 overflow_add-below c =
     let l = c.loop-i in
-    record { fits = one_room _ _ l.i c.args.n l.invariant.6 c.loop-i-test.true c.requires.1 (top_of c) }
+    record { fits = one_room _ _ l.i c.args.n l.invariant.6 c.loop-i-test.true c.requires.1 ((let fact : c.read_pattern-x.result / 2 ^ top_bit c.args.w ≤ 1 = one_top _ c.args.w c.requires.0 (read_lt c.args.body.now (λ j. (c.shared_slice_known-1.given j).fits) (c.args.at + c.loop-i.i * c.args.w) c.args.w _ c.read_pattern-x.ensures) in fact)) }
 
 pub overflow_add-i : goal.overflow_add-i
 overflow_add-i c = omega arith
@@ -69,7 +62,7 @@ loop-i-preserved c =
       up_more _ l.i _ _ l.invariant.3 (ap (λ v. v / 2 ^ top_bit c.args.w) x.ensures),
       low_most _ x.result l.i l.invariant.4,
       high_most _ x.result l.i l.invariant.5 (omega (arith, x.type_inv)),
-      one_most _ _ l.i l.invariant.6 (top_of c),
+      one_most _ _ l.i l.invariant.6 ((let fact : c.read_pattern-x.result / 2 ^ top_bit c.args.w ≤ 1 = one_top _ c.args.w c.requires.0 (read_lt c.args.body.now (λ j. (c.shared_slice_known-1.given j).fits) (c.args.at + c.loop-i.i * c.args.w) c.args.w _ c.read_pattern-x.ensures) in fact)),
     )
 
 pub returns : goal.returns

@@ -4,17 +4,6 @@ use Rattle.aggregates.specs.patterns.Parts.{top_bit, up_to}
 use Rattle.aggregates.proofs.patterns.Laws.{up_none, up_more, some_bytes, one_top, read_lt, within, times_bit, low_room, high_room, one_room, low_most, high_most, one_most, first_bits, next_bits}
 use Rattle.aggregates.proofs.patterns.add_some.Goals as goal
 
--- what is left of a number
-kept_most : (c : tie.After-read-pattern invariant-loop decreases-loop) → c.read-pattern.result * (c.before.before.loop.bits % 2) ≤ c.read-pattern.result
-kept_most c = times_bit _ (c.before.before.loop.bits % 2) (omega arith)
-
--- its top bit
-top_of : (c : tie.After-read-pattern invariant-loop decreases-loop) → c.read-pattern.result * (c.before.before.loop.bits % 2) / 2 ^ top_bit c.before.before.before.before.args.w ≤ 1
-top_of c =
-    let k = c.before.before.before in
-    let s = k.before in
-    one_top _ s.args.w s.requires.0 (lt_of_le_of_lt (kept_most c) (read_lt s.args.body.now (λ j. (k.shared-slice-known.given j).fits) (s.args.at + c.before.before.loop.i * s.args.w) s.args.w _ c.read-pattern.ensures))
-
 pub overflow_mul-top : goal.overflow_mul-top
 overflow_mul-top c = omega (arith, (some_bytes _ c.requires.0).1)
 
@@ -38,7 +27,7 @@ read_pattern-requires c =
     (c.requires.0, within c.args.at c.args.w 64 _ c.loop-i.i c.loop-i-test.true c.requires.1)
 
 pub overflow_mul-x : goal.overflow_mul-x
-overflow_mul-x c = omega (arith, kept_most c, c.read_pattern.type_inv)
+overflow_mul-x c = omega (arith, (let fact : c.read_pattern.result * (c.loop-i.bits % 2) ≤ c.read_pattern.result = times_bit _ (c.loop-i.bits % 2) (omega arith) in fact), c.read_pattern.type_inv)
 
 pub overflow_add-count : goal.overflow_add-count
 overflow_add-count c = omega arith
@@ -51,7 +40,7 @@ overflow_add-low c =
 pub overflow_add-high : goal.overflow_add-high
 overflow_add-high c =
     let l = c.loop-i in
-    record { fits = high_room _ _ l.i 64 l.invariant.8 c.loop-i-test.true (omega arith) (omega (arith, kept_most c, c.read_pattern.type_inv)) }
+    record { fits = high_room _ _ l.i 64 l.invariant.8 c.loop-i-test.true (omega arith) (omega (arith, (let fact : c.read_pattern.result * (c.loop-i.bits % 2) ≤ c.read_pattern.result = times_bit _ (c.loop-i.bits % 2) (omega arith) in fact), c.read_pattern.type_inv)) }
 
 pub overflow_cast-below : goal.overflow_cast-below
 overflow_cast-below c = omega (arith, (some_bytes _ c.requires.0).1)
@@ -62,7 +51,7 @@ overflow_shr-below c = omega (arith, (some_bytes _ c.requires.0).1)
 pub overflow_add-below : goal.overflow_add-below
 overflow_add-below c =
     let l = c.loop-i in
-    record { fits = one_room _ _ l.i 64 l.invariant.9 c.loop-i-test.true (omega arith) (top_of c) }
+    record { fits = one_room _ _ l.i 64 l.invariant.9 c.loop-i-test.true (omega arith) ((let fact : c.read_pattern.result * (c.loop-i.bits % 2) / 2 ^ top_bit c.args.w ≤ 1 = one_top _ c.args.w c.requires.0 (lt_of_le_of_lt ((let fact : c.read_pattern.result * (c.loop-i.bits % 2) ≤ c.read_pattern.result = times_bit _ (c.loop-i.bits % 2) (omega arith) in fact)) (read_lt c.args.body.now (λ j. (c.shared_slice_known-1.given j).fits) (c.args.at + c.loop-i.i * c.args.w) c.args.w _ c.read_pattern.ensures)) in fact)) }
 
 pub overflow_add-i : goal.overflow_add-i
 overflow_add-i c = omega arith
@@ -84,8 +73,8 @@ loop-i-preserved c =
       next_bits _ l.i _ l.invariant.5,
       omega arith,
       low_most _ _ l.i l.invariant.7,
-      high_most _ _ l.i l.invariant.8 (omega (arith, kept_most c, x.type_inv)),
-      one_most _ _ l.i l.invariant.9 (top_of c),
+      high_most _ _ l.i l.invariant.8 (omega (arith, (let fact : c.read_pattern.result * (c.loop-i.bits % 2) ≤ c.read_pattern.result = times_bit _ (c.loop-i.bits % 2) (omega arith) in fact), x.type_inv)),
+      one_most _ _ l.i l.invariant.9 ((let fact : c.read_pattern.result * (c.loop-i.bits % 2) / 2 ^ top_bit c.args.w ≤ 1 = one_top _ c.args.w c.requires.0 (lt_of_le_of_lt ((let fact : c.read_pattern.result * (c.loop-i.bits % 2) ≤ c.read_pattern.result = times_bit _ (c.loop-i.bits % 2) (omega arith) in fact)) (read_lt c.args.body.now (λ j. (c.shared_slice_known-1.given j).fits) (c.args.at + c.loop-i.i * c.args.w) c.args.w _ c.read_pattern.ensures)) in fact)),
     )
 
 pub returns : goal.returns

@@ -12,16 +12,16 @@ sum-sum-requires c =
 
 pub overflow_mul-result : goal.overflow_mul-result
 overflow_mul-result c =
-    record { fits = omega (arith, at_most c.args.c.count c.args.n c.requires.count_bound.0, (c.requires.count_bound, c.requires.n_bound)) }
+    record { fits = omega (arith, at_most c.args.c.count c.args.n c.requires.count_bound.0, c.requires.count_bound, c.requires.n_bound) }
 
 pub overflow_add-result : goal.overflow_add-result
 overflow_add-result c =
-    record { fits = omega (arith, at_most c.args.c.count c.args.n c.requires.count_bound.0, (c.requires.count_bound, c.requires.n_bound)) }
+    record { fits = omega (arith, at_most c.args.c.count c.args.n c.requires.count_bound.0, c.requires.count_bound, c.requires.n_bound) }
 
 pub overflow_mul-result-2 : goal.overflow_mul-result-2
 overflow_mul-result-2 c =
-    record { fits = omega (arith, at_most c.args.c.below c.args.n c.requires.count_bound.1, (c.requires.count_bound, c.requires.n_bound)) }
+    record { fits = omega (arith, at_most c.args.c.below c.args.n c.requires.count_bound.1, c.requires.count_bound, c.requires.n_bound) }
 
 pub overflow_add-result-2 : goal.overflow_add-result-2
 overflow_add-result-2 c =
-    record { fits = omega (arith, at_most c.args.c.below c.args.n c.requires.count_bound.1, (c.requires.count_bound, c.requires.n_bound)) }
+    record { fits = omega (arith, at_most c.args.c.below c.args.n c.requires.count_bound.1, c.requires.count_bound, c.requires.n_bound) }

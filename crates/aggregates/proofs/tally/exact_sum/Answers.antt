@@ -32,13 +32,6 @@ one_less h b p q = omega (arith, q)
 less_one : (h b : ℕ) → suc h ≡ b → h ≡ b - 1
 less_one h b p = omega arith
 
--- what the sum says
-seen : (c : tie.After-sum) → pos (c.sum.result.hi * 18446744073709551616 + c.sum.result.lo) ≡ tallied_by c.before.before.args.lift c.before.before.args.t +ℤ pos (c.before.before.args.t.below * 18446744073709551616)
-seen c = lifted c.before.before.args.t c.before.before.args.lift _ _ (omega (arith, c.before.before.ranges.lift.fits)) c.before.product.ensures c.sum.ensures
-
-small : (c : tie.After-sum) → c.sum.result.lo < 18446744073709551616
-small c = omega (arith, c.sum.type-inv)
-
 back : (z : ℤ) (p : ℕ) → z ≡ signed 8 p → Fits w64 p → to_z w64 (of_z w64 z) ≡ signed 8 p
 back z p e f = read_value w64 z p p f e refl
 
@@ -48,26 +41,26 @@ sum-sum-requires c =
 
 pub returns-then-sum-lt9223372036854775808 : goal.returns-then-sum-lt9223372036854775808
 returns-then-sum-lt9223372036854775808 c =
-    ap total.Fits (back _ _ c.value_i64.ensures (record { fits = small c }))
-    ∙ level c.sum-sum.result.hi c.sum-sum.result.lo c.args.t.below (small c) _ (seen c) c.if-sum-t.true c.if-sum-lt9223372036854775808.true
+    ap total.Fits (back _ _ c.value_i64.ensures (record { fits = (let fact : c.sum-sum.result.lo < 18446744073709551616 = omega (arith, c.sum-sum.type_inv) in fact) }))
+    ∙ level c.sum-sum.result.hi c.sum-sum.result.lo c.args.t.below ((let fact : c.sum-sum.result.lo < 18446744073709551616 = omega (arith, c.sum-sum.type_inv) in fact)) _ ((let fact : pos (c.sum-sum.result.hi * 18446744073709551616 + c.sum-sum.result.lo) ≡ tallied_by c.args.lift c.args.t +ℤ pos (c.args.t.below * 18446744073709551616) = lifted c.args.t c.args.lift _ _ (omega (arith, c.ranges.lift.fits)) c.product-more.ensures c.sum-sum.ensures in fact)) c.if-sum-t.true c.if-sum-lt9223372036854775808.true
 
 pub returns-then-sum-t : goal.returns-then-sum-t
 returns-then-sum-t c =
-    level_outside c.sum-sum.result.hi c.sum-sum.result.lo c.args.t.below (small c) _ (seen c) c.if-sum-t.true c.if-sum-lt9223372036854775808.false
+    level_outside c.sum-sum.result.hi c.sum-sum.result.lo c.args.t.below ((let fact : c.sum-sum.result.lo < 18446744073709551616 = omega (arith, c.sum-sum.type_inv) in fact)) _ ((let fact : pos (c.sum-sum.result.hi * 18446744073709551616 + c.sum-sum.result.lo) ≡ tallied_by c.args.lift c.args.t +ℤ pos (c.args.t.below * 18446744073709551616) = lifted c.args.t c.args.lift _ _ (omega (arith, c.ranges.lift.fits)) c.product-more.ensures c.sum-sum.ensures in fact)) c.if-sum-t.true c.if-sum-lt9223372036854775808.false
 
 pub returns-then-t-eq0 : goal.returns-then-t-eq0
 returns-then-t-eq0 c =
-    far c.sum-sum.result.hi c.sum-sum.result.lo c.args.t.below (small c) _ (seen c) c.if-sum-t.false (λ q. none _ _ q c.if-t-eq0.true)
+    far c.sum-sum.result.hi c.sum-sum.result.lo c.args.t.below ((let fact : c.sum-sum.result.lo < 18446744073709551616 = omega (arith, c.sum-sum.type_inv) in fact)) _ ((let fact : pos (c.sum-sum.result.hi * 18446744073709551616 + c.sum-sum.result.lo) ≡ tallied_by c.args.lift c.args.t +ℤ pos (c.args.t.below * 18446744073709551616) = lifted c.args.t c.args.lift _ _ (omega (arith, c.ranges.lift.fits)) c.product-more.ensures c.sum-sum.ensures in fact)) c.if-sum-t.false (λ q. none _ _ q c.if-t-eq0.true)
 
 pub returns-then-sum-ge9223372036854775808 : goal.returns-then-sum-ge9223372036854775808
 returns-then-sum-ge9223372036854775808 c =
-    ap total.Fits (back _ _ c.value_i64-then-sum-ge9223372036854775808.ensures (record { fits = small c }))
-    ∙ under c.sum-sum.result.hi c.sum-sum.result.lo c.args.t.below (small c) _ (seen c) (one_less _ _ c.if-sum-t-2.true c.if-t-eq0.false) c.if-sum-ge9223372036854775808.true
+    ap total.Fits (back _ _ c.value_i64-then-sum-ge9223372036854775808.ensures (record { fits = (let fact : c.sum-sum.result.lo < 18446744073709551616 = omega (arith, c.sum-sum.type_inv) in fact) }))
+    ∙ under c.sum-sum.result.hi c.sum-sum.result.lo c.args.t.below ((let fact : c.sum-sum.result.lo < 18446744073709551616 = omega (arith, c.sum-sum.type_inv) in fact)) _ ((let fact : pos (c.sum-sum.result.hi * 18446744073709551616 + c.sum-sum.result.lo) ≡ tallied_by c.args.lift c.args.t +ℤ pos (c.args.t.below * 18446744073709551616) = lifted c.args.t c.args.lift _ _ (omega (arith, c.ranges.lift.fits)) c.product-more.ensures c.sum-sum.ensures in fact)) (one_less _ _ c.if-sum-t-2.true c.if-t-eq0.false) c.if-sum-ge9223372036854775808.true
 
 pub returns-else-sum-ge9223372036854775808 : goal.returns-else-sum-ge9223372036854775808
 returns-else-sum-ge9223372036854775808 c =
-    under_outside c.sum-sum.result.hi c.sum-sum.result.lo c.args.t.below (small c) _ (seen c) (one_less _ _ c.if-sum-t-2.true c.if-t-eq0.false) c.if-sum-ge9223372036854775808.false
+    under_outside c.sum-sum.result.hi c.sum-sum.result.lo c.args.t.below ((let fact : c.sum-sum.result.lo < 18446744073709551616 = omega (arith, c.sum-sum.type_inv) in fact)) _ ((let fact : pos (c.sum-sum.result.hi * 18446744073709551616 + c.sum-sum.result.lo) ≡ tallied_by c.args.lift c.args.t +ℤ pos (c.args.t.below * 18446744073709551616) = lifted c.args.t c.args.lift _ _ (omega (arith, c.ranges.lift.fits)) c.product-more.ensures c.sum-sum.ensures in fact)) (one_less _ _ c.if-sum-t-2.true c.if-t-eq0.false) c.if-sum-ge9223372036854775808.false
 
 pub returns-else-sum-t-2 : goal.returns-else-sum-t-2
 returns-else-sum-t-2 c =
-    far c.sum-sum.result.hi c.sum-sum.result.lo c.args.t.below (small c) _ (seen c) c.if-sum-t.false (λ q. c.if-sum-t-2.false (less_one _ _ q))
+    far c.sum-sum.result.hi c.sum-sum.result.lo c.args.t.below ((let fact : c.sum-sum.result.lo < 18446744073709551616 = omega (arith, c.sum-sum.type_inv) in fact)) _ ((let fact : pos (c.sum-sum.result.hi * 18446744073709551616 + c.sum-sum.result.lo) ≡ tallied_by c.args.lift c.args.t +ℤ pos (c.args.t.below * 18446744073709551616) = lifted c.args.t c.args.lift _ _ (omega (arith, c.ranges.lift.fits)) c.product-more.ensures c.sum-sum.ensures in fact)) c.if-sum-t.false (λ q. c.if-sum-t-2.false (less_one _ _ q))

@@ -1,0 +1,33 @@
+-- `trying::uncount` meets its contract. The invariant: the first i null counters are full. Assumes nothing.
+use Prim.Native.Nat.{◌-◌}
+use native.Mathlib.Omega.{arith}
+use Rattle.sound.proofs.trying.Laws.{filled_none, filled_more, filled_all}
+use Rattle.sound.proofs.trying.uncount.Goals as goal
+
+pub loop-i-init : goal.loop-i-init
+loop-i-init c = (omega arith, filled_none c.args.counters.now)
+
+pub overflow_mul-counters : goal.overflow_mul-counters
+overflow_mul-counters c = omega arith
+
+pub overflow_add-counters : goal.overflow_add-counters
+overflow_add-counters c = omega arith
+
+pub offset_bounds-counters-i : goal.offset_bounds-counters-i
+offset_bounds-counters-i c = omega arith
+
+pub overflow_add-i : goal.overflow_add-i
+overflow_add-i c = omega arith
+
+pub loop-i-smaller : goal.loop-i-smaller
+loop-i-smaller c = omega arith
+
+pub loop-i-preserved : goal.loop-i-preserved
+loop-i-preserved c =
+    let l = c.loop-i in
+    (omega arith, filled_more c.args.counters.now l.counters l.i (omega arith) l.invariant.1)
+
+pub returns : goal.returns
+returns c =
+    let l = c.loop-i in
+    let both = filled_all c.args.counters.now l.counters l.i c.args.n (omega arith) l.invariant.1 in record { alike = both.0; full = both.1 }
