@@ -1,0 +1,109 @@
+-- `batch_walk::list_view::copy_number_stretches` meets its contract. Assumes nothing.
+use mathlib.Core.Path.{◌≡◌, refl, sym, subst}
+use mathlib.Core.Bool.{true}
+use Prim.Native.Nat.{ℕ, suc, ◌+◌, ◌*◌, ◌-◌, ◌≤◌, ◌<◌, ◌^◌}
+use native.Mathlib.Numerals.{add-one}
+use native.Mathlib.Omega.{arith}
+use lib.ListN.{length}
+use Rattle.number.specs.Number.{entry}
+use Rattle.leaf_walk.specs.Join.{join}
+use Rattle.batch.specs.Stretch.{sum_of}
+use Rattle.batch.specs.Batch.{batch_leaf}
+use Rattle.batch.specs.batch_walk.Plain.{is_plain}
+use Rattle.batch.proofs.batch_walk.PlainLeaf.{plain_wide}
+use Rattle.batch.proofs.batch_walk.Sums.{entry_in_lem, sum_more}
+use Rattle.batch.proofs.batch_walk.Loops.{begins, loop_out, loop_stop, loop_zero, loop_more}
+use Rattle.batch.proofs.list_view.copy_number_stretches.Goals as goal
+
+pub loop-r-init : goal.loop-r-init
+loop-r-init c =
+    let a = c.args in (
+      omega arith,
+      refl,
+      omega arith,
+      subst (λ v. sum_of (λ q. entry a.w a.body.now v (a.slot + q)) a.n < 2 ^ 63) (sym c.place-sizes.ensures) c.requires.n_bound,
+      subst (λ v. v + a.w * (a.slot + a.n) ≤ length a.body.now) (sym c.place-offsets.ensures) c.requires.n_in_bounds.0,
+      subst (λ v. v + a.w * (a.slot + a.n) ≤ length a.body.now) (sym c.place-sizes.ensures) c.requires.n_in_bounds.1,
+      λ source. begins a.plan.now a.parts.now a.write (λ b k d. batch_leaf (join a.plan.now a.parts.now a.lengths.now a.places.now a.body.now a.first source) (suc a.i) b k d) a.w a.body.now a.slot a.n a.counters.now a.room.now c.place-offsets.ensures c.place-sizes.ensures,
+    )
+
+pub advance-t-requires : goal.advance-t-requires
+advance-t-requires c = record { n_in_bounds = (c.loop-r.invariant.4, c.loop-r.invariant.5, c.requires.first_bound.2, c.loop-r.invariant.0); m_bound = (c.loop-r.invariant.2, c.loop-r.invariant.3); w_value = c.requires.w_value }
+
+pub overflow_add-i-in-loop-r : goal.overflow_add-i-in-loop-r
+overflow_add-i-in-loop-r c = omega arith
+
+pub copy_stretch-g-requires : goal.copy_stretch-g-requires
+copy_stretch-g-requires c =
+    let a = c.args in
+    let p : is_plain a.plan.now (a.i + 1) ≡ true = rw (add-one a.i) c.requires.first_bound.3 in
+    let v = plain_wide a.plan.now (a.i + 1) c.width_at-v.ensures p in
+    (c.requires.first_bound.0, omega arith, v.0, v.1, c.width_at-v.ensures, p)
+
+pub returns-then-g-ne0 : goal.returns-then-g-ne0
+returns-then-g-ne0 c =
+    let a = c.args in
+    let l = c.loop-r in
+    let s : ℕ → ℕ = λ q. entry a.w a.body.now c.place-offsets.result (a.slot + q) in
+    let f : ℕ → ℕ = λ q. entry a.w a.body.now c.place-sizes.result (a.slot + q) in
+    λ source. loop_stop (λ b k d. batch_leaf (join a.plan.now a.parts.now a.lengths.now a.places.now a.body.now a.first source) (suc a.i) b k d) s f a.n l.r l.a l.m l.counters l.room (l.invariant.6 source) c.advance-t.result.next c.advance-t.result.a c.advance-t.result.m (c.advance-t.ensures.by_index (λ b k d. batch_leaf (join a.plan.now a.parts.now a.lengths.now a.places.now a.body.now a.first source) (suc a.i) b k d) l.counters) c.advance-t.ensures.next_le_n.0 (rw (add-one a.i) at (c.copy_stretch-g.ensures source)) c.if-g-ne0.true c.advance-t.ensures.next_value
+
+pub returns-then-t-n : goal.returns-then-t-n
+returns-then-t-n c =
+    let a = c.args in
+    let l = c.loop-r in
+    let s : ℕ → ℕ = λ q. entry a.w a.body.now c.place-offsets.result (a.slot + q) in
+    let f : ℕ → ℕ = λ q. entry a.w a.body.now c.place-sizes.result (a.slot + q) in
+    λ source. loop_zero (λ b k d. batch_leaf (join a.plan.now a.parts.now a.lengths.now a.places.now a.body.now a.first source) (suc a.i) b k d) s f a.n l.r l.a l.m l.counters l.room (l.invariant.6 source) c.advance-t.result.next c.advance-t.result.a c.advance-t.result.m (c.advance-t.ensures.by_index (λ b k d. batch_leaf (join a.plan.now a.parts.now a.lengths.now a.places.now a.body.now a.first source) (suc a.i) b k d) l.counters) c.advance-t.ensures.next_le_n.0 (rw (add-one a.i) at (c.copy_stretch-g.ensures source)) c.if-t-n.true c.if-g-ne0.false
+
+pub overflow_add-slot : goal.overflow_add-slot
+overflow_add-slot c = omega (arith, c.advance-t.ensures.next_le_n.0, c.requires.first_bound.2)
+
+pub entry_at-a-requires : goal.entry_at-a-requires
+entry_at-a-requires c = let a = c.args in record { w_value = c.requires.w_value; k_in_bounds = entry_in_lem c.place-offsets.result a.w a.slot a.n c.advance-t.result.next (length a.body.now) c.loop-r.invariant.4 (omega (arith, c.advance-t.ensures.next_le_n.0, c.requires.first_bound.2)) }
+
+pub overflow_add-slot-in-loop-r : goal.overflow_add-slot-in-loop-r
+overflow_add-slot-in-loop-r c = omega (arith, c.advance-t.ensures.next_le_n.0, c.requires.first_bound.2)
+
+pub entry_at-m-requires : goal.entry_at-m-requires
+entry_at-m-requires c = let a = c.args in record { w_value = c.requires.w_value; k_in_bounds = entry_in_lem c.place-sizes.result a.w a.slot a.n c.advance-t.result.next (length a.body.now) c.loop-r.invariant.5 (omega (arith, c.advance-t.ensures.next_le_n.0, c.requires.first_bound.2)) }
+
+pub overflow_add-r : goal.overflow_add-r
+overflow_add-r c = omega (arith, c.advance-t.ensures.next_le_n.0, c.requires.first_bound.2)
+
+pub loop-r-smaller : goal.loop-r-smaller
+loop-r-smaller c = omega (arith, c.advance-t.ensures.next_le_n.0, c.requires.first_bound.2)
+
+pub loop-r-preserved : goal.loop-r-preserved
+loop-r-preserved c =
+    let a = c.args in
+    let l = c.loop-r in
+    let s : ℕ → ℕ = λ q. entry a.w a.body.now c.place-offsets.result (a.slot + q) in
+    let f : ℕ → ℕ = λ q. entry a.w a.body.now c.place-sizes.result (a.slot + q) in
+    let g : sum_of f (c.advance-t.result.next + 1) ≡ sum_of f c.advance-t.result.next + f c.advance-t.result.next = sum_more f c.advance-t.result.next in (
+      omega (arith, c.advance-t.ensures.next_le_n.0),
+      omega arith,
+      omega (arith, g, c.entry_at-m.ensures),
+      l.invariant.3,
+      l.invariant.4,
+      l.invariant.5,
+      λ source. loop_more (λ b k d. batch_leaf (join a.plan.now a.parts.now a.lengths.now a.places.now a.body.now a.first source) (suc a.i) b k d) s f a.n l.r l.a l.m l.counters l.room (l.invariant.6 source) c.advance-t.result.next c.advance-t.result.a c.advance-t.result.m (c.advance-t.ensures.by_index (λ b k d. batch_leaf (join a.plan.now a.parts.now a.lengths.now a.places.now a.body.now a.first source) (suc a.i) b k d) l.counters) c.advance-t.ensures.next_le_n.0 (rw (add-one a.i) at (c.copy_stretch-g.ensures source)) c.if-g-ne0.false c.if-t-n.false c.advance-t.ensures.next_value refl c.entry_at-a.ensures c.entry_at-m.ensures,
+    )
+
+pub overflow_add-i-2 : goal.overflow_add-i-2
+overflow_add-i-2 c = omega arith
+
+pub copy_stretch-requires : goal.copy_stretch-requires
+copy_stretch-requires c =
+    let a = c.args in
+    let p : is_plain a.plan.now (a.i + 1) ≡ true = rw (add-one a.i) c.requires.first_bound.3 in
+    let v = plain_wide a.plan.now (a.i + 1) c.width_at-v.ensures p in
+    (c.requires.first_bound.0, omega arith, v.0, v.1, c.width_at-v.ensures, p)
+
+pub returns : goal.returns
+returns c =
+    let a = c.args in
+    let l = c.loop-r in
+    let s : ℕ → ℕ = λ q. entry a.w a.body.now c.place-offsets.result (a.slot + q) in
+    let f : ℕ → ℕ = λ q. entry a.w a.body.now c.place-sizes.result (a.slot + q) in
+    λ source. loop_out (λ b k d. batch_leaf (join a.plan.now a.parts.now a.lengths.now a.places.now a.body.now a.first source) (suc a.i) b k d) s f a.n l.r l.a l.m l.counters l.room (l.invariant.6 source) (omega arith) (rw (add-one a.i) at (c.copy_stretch.ensures source))

@@ -1,0 +1,22 @@
+-- `batch_walk::numbers::put_few` meets its contract. Assumes nothing.
+use mathlib.Core.Path.{sym}
+use native.Mathlib.Omega.{arith}
+use lib.ListN.{length, take, drop}
+use Rattle.room_writes.proofs.Laws.{alike_same, made, put_at, put_skip}
+use Rattle.room_writes.proofs.Bytes.{length_copied}
+use Rattle.batch.proofs.numbers.put_few.Goals as goal
+
+pub copy_few-requires : goal.copy_few-requires
+copy_few-requires c =
+    let a = c.args in
+    omega (arith, (made a.plan.now a.parts.now (length a.room.now) a.write a.k 1 a.o a.n c.target.ensures c.in-At.is).within)
+
+pub returns-in-At : goal.returns-in-At
+returns-in-At c =
+    let a = c.args in
+    put_at a.plan.now a.parts.now a.write a.k 1 a.o (take a.n (drop a.from a.body.now)) a.room.now (omega arith) c.target.ensures c.in-At.is (alike_same (sym (length_copied a.body.now a.from a.n (omega arith)))) c.copy_few.ensures
+
+pub returns-in-Skip : goal.returns-in-Skip
+returns-in-Skip c =
+    let a = c.args in
+    put_skip a.plan.now a.parts.now a.write a.k 1 a.o (take a.n (drop a.from a.body.now)) a.room.now (omega arith) c.target.ensures c.in-Skip.is (alike_same (sym (length_copied a.body.now a.from a.n (omega arith))))

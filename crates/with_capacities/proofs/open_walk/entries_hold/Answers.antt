@@ -1,0 +1,58 @@
+-- `open_walk::entries_hold` meets its contract. The invariant: the entries of the sources below s are counted. Assumes nothing.
+use mathlib.Core.Path.{refl, sym}
+use mathlib.Core.List.{[]}
+use Prim.Native.Nat.{◌-◌}
+use native.Mathlib.Omega.{arith}
+use Rattle.columnar.proofs.Test.{every_false}
+use Rattle.array_data.proofs.lent_tables.Laws.{no, yes}
+use Rattle.plan.proofs.parts.Laws.{every_one, every_now}
+use Rattle.refinement.specs.orders.Order.{lent}
+use Rattle.with_capacities.proofs.open_walk.Laws.{entry_holds, entry_at, entries_are}
+use Rattle.with_capacities.proofs.open_walk.entries_hold.Goals as goal
+
+pub loop-s-init : goal.loop-s-init
+loop-s-init c = (omega arith, refl)
+
+pub overflow_add-i : goal.overflow_add-i
+overflow_add-i c = omega arith
+
+pub node_of-requires : goal.node_of-requires
+node_of-requires c = omega arith
+
+pub length_of-n-requires : goal.length_of-n-requires
+length_of-n-requires c = omega arith
+
+pub base_of-requires : goal.base_of-requires
+base_of-requires c = omega arith
+
+pub returns-then-not-fits : goal.returns-then-not-fits
+returns-then-not-fits c =
+    let z = c.args in
+    let s = c.loop-s.s in
+    let m = c.source_count-m.result in
+    λ parts places body.
+    let x = lent z.plan.now parts z.sources.now z.lengths.now places body in
+    entries_are x z.i c.source_count-m.ensures.value
+    (sym (every_false (entry_holds x z.i) m s (omega arith) (no (entry_at x z.i s c.base_of.ensures c.node_of.ensures.value c.length_of-n.ensures c.fits.ensures) c.if-not-fits.true-raw)))
+
+pub overflow_add-s : goal.overflow_add-s
+overflow_add-s c = omega arith
+
+pub loop-s-smaller : goal.loop-s-smaller
+loop-s-smaller c = omega arith
+
+pub loop-s-preserved : goal.loop-s-preserved
+loop-s-preserved c =
+    let z = c.args in
+    let s = c.loop-s.s in
+    let x = lent z.plan.now [] z.sources.now z.lengths.now [] [] in
+    (omega arith, every_one (entry_holds x z.i) s c.loop-s.invariant.1 (yes (entry_at x z.i s c.base_of.ensures c.node_of.ensures.value c.length_of-n.ensures c.fits.ensures) c.if-not-fits.false-raw))
+
+pub returns : goal.returns
+returns c =
+    let z = c.args in
+    let s = c.loop-s.s in
+    let m = c.source_count-m.result in
+    λ parts places body.
+    let x = lent z.plan.now parts z.sources.now z.lengths.now places body in
+    entries_are x z.i c.source_count-m.ensures.value (sym (every_now (entry_holds x z.i) m s (omega arith) (omega arith) c.loop-s.invariant.1))
