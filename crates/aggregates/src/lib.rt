@@ -1,5 +1,6 @@
 // Count, exact sum and mean of a whole-number column's rows, and total over total of two columns' rows (02, W8).
 #![tactic(auto)]
+
 pub mod blocks;
 pub mod cell_sums;
 pub mod cells;

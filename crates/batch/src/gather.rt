@@ -20,7 +20,7 @@ use walk::plan_words;
 // An entry of w bytes of body at `from` into room at `to`.
 fn copy_entry(room: &mut [u8], to: usize, body: &[u8], from: usize, w: u64)
     requires { (to + w ≤ length room.old) × (from + w ≤ length body.now) }
-    ensures { left room ≡ splice to (take w (drop from (was body))) (was room) }
+    ensures { room.new ≡ splice to (take w (drop from (was body))) room.old }
 {
     if w == 4 {
         number::write_u32(room, to, number::read_u32(body, from));
@@ -49,7 +49,7 @@ fn copy_row(
     requires q_in_bounds { (ids + q < length body.now) × (positions + 4 * (q + 1) ≤ length body.now) × (q < 2 ^ 63) }
     requires fact { let e = eqb (home_by homes.now body.now (ids + q)) k in (to + w * cond e 1 0 ≤ length room.old) × (at + w * (cond e (entry 4 body.now positions q) 0 + cond e 1 0) ≤ length body.now) }
     ensures value { result ≡ w * cond (eqb (home_by (was homes) (was body) (ids + q)) k) 1 0 }
-    ensures room_value { let e = eqb (home_by (was homes) (was body) (ids + q)) k in left room ≡ splice to (take (w * cond e 1 0) (drop (at + w * cond e (entry 4 (was body) positions q) 0) (was body))) (was room) }
+    ensures room_value { let e = eqb (home_by (was homes) (was body) (ids + q)) k in room.new ≡ splice to (take (w * cond e 1 0) (drop (at + w * cond e (entry 4 (was body) positions q) 0) (was body))) room.old }
 {
     if homes::home_at(homes, body, ids + q) as usize != k {
         return 0;
@@ -76,7 +76,7 @@ fn copy_taken(
 )
     requires n_in_bounds { (ids + (slot + n) ≤ length body.now) × (positions + 4 * (slot + n) ≤ length body.now) × (slot + n < 2 ^ 63) }
     requires n_in_bounds_2 { (to + w * sum_of (taken_of homes.now body.now ids slot k) n ≤ length room.old) × ((r : ℕ) → r < n → at + w * (taken_from homes.now body.now ids positions slot k r + taken_of homes.now body.now ids slot k r) ≤ length body.now) }
-    ensures { left room ≡ splice to (pieces (λ r. take (w * taken_of (was homes) (was body) ids slot k r) (drop (at + w * taken_from (was homes) (was body) ids positions slot k r) (was body))) n) (was room) }
+    ensures { room.new ≡ splice to (pieces (λ r. take (w * taken_of (was homes) (was body) ids slot k r) (drop (at + w * taken_from (was homes) (was body) ids positions slot k r) (was body))) n) room.old }
 {
     let mut to = to;
     let mut r: u64 = 0;
@@ -117,8 +117,8 @@ pub fn put_taken(
     requires first_bound { (first < 2 ^ 32) × (k < 32) × (w ≡ bytes_of plan.now k) × (is_plain plan.now k ≡ true) }
     requires n_in_bounds { (ids + (slot + n) ≤ length body.now) × (positions + 4 * (slot + n) ≤ length body.now) × (slot + n < 2 ^ 63) }
     requires total_value { (total ≡ sum_of (taken_of homes.now body.now ids slot k) n) × (end ≡ furthest_of (λ q. taken_from homes.now body.now ids positions slot k q + taken_of homes.now body.now ids slot k q) n) }
-    ensures room_value { result ≡ false → left room ≡ was room }
-    ensures did { result ≡ true → (source : ℕ) → Did (was plan) (was parts) write (taken_stretches (lent_join plan parts lengths places body first source) (was homes) ids positions slot k n (was counters)) (was room) 0 (add_rows k total (was counters)) (left room) }
+    ensures room_value { result ≡ false → room.new ≡ room.old }
+    ensures did { result ≡ true → (source : ℕ) → Did (was plan) (was parts) write (taken_stretches (lent_join plan parts lengths places body first source) (was homes) ids positions slot k n (was counters)) room.old 0 (add_rows k total (was counters)) room.new }
 {
     if !numbers::reaches(lengths, places, body, first, k, w, end) {
         return false;

@@ -1,6 +1,7 @@
 // Theory: an order walked by stretches, child rows that follow one another in one walk, and that it comes to what the walk of a copy
 // comes to.
 #![tactic(auto)]
+
 pub mod batch_walk;
 mod dense_rows;
 mod dense_texts;

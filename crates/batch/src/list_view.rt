@@ -267,9 +267,9 @@ pub fn put_head(
 ) -> Head
     requires first_bound { (first < 2 ^ 32) × (i + 1 < 32) × (slot + n < 2 ^ 63) }
     requires w_value { (w ≡ 4 → ⊥) → w ≡ 8 }
-    ensures any_lengths { (result.refusal ≡ 0 → ⊥) → AnyLengths plan parts places body first (λ j. (child : Walk) → Did (was plan) (was parts) write (batch_list_view j child w i slot n (was counters)) (was room) result.refusal (was counters) (left room)) }
+    ensures any_lengths { (result.refusal ≡ 0 → ⊥) → AnyLengths plan parts places body first (λ j. (child : Walk) → Did (was plan) (was parts) write (batch_list_view j child w i slot n (was counters)) room.old result.refusal (was counters) room.new) }
     ensures named { result.refusal ≡ 0 → Named (was body) (place (join [] [] [] (was places) [] first 0) i 3) (place (join [] [] [] (was places) [] first 0) i 5) w slot n result.total }
-    ensures any_lengths_2 { result.refusal ≡ 0 → AnyLengths plan parts places body first (λ j. (child : Walk) → Rests (was plan) (was parts) write (batch_list_view j child w i slot n (was counters)) (was room) (rows_of j child w i slot n (was counters)) (left room)) }
+    ensures any_lengths_2 { result.refusal ≡ 0 → AnyLengths plan parts places body first (λ j. (child : Walk) → Rests (was plan) (was parts) write (batch_list_view j child w i slot n (was counters)) room.old (rows_of j child w i slot n (was counters)) room.new) }
 {
     if !has_child(plan, i) {
         return refused(12);

@@ -73,7 +73,7 @@ fn copy_listed(
     requires n_in_bounds { (offsets + w * (slot + n) ≤ length body.now) × (sizes + w * (slot + n) ≤ length body.now) × (slot + n < 2 ^ 63) }
     requires w_value { (w ≡ 4 → ⊥) → w ≡ 8 }
     requires n_in_bounds_2 { (to + v * sum_of (λ r. entry w body.now sizes (slot + r)) n ≤ length room.old) × ((r : ℕ) → r < n → at + v * (entry w body.now offsets (slot + r) + entry w body.now sizes (slot + r)) ≤ length body.now) }
-    ensures { left room ≡ splice to (pieces (λ r. take (v * entry w (was body) sizes (slot + r)) (drop (at + v * entry w (was body) offsets (slot + r)) (was body))) n) (was room) }
+    ensures { room.new ≡ splice to (pieces (λ r. take (v * entry w (was body) sizes (slot + r)) (drop (at + v * entry w (was body) offsets (slot + r)) (was body))) n) room.old }
 {
     let mut to = to;
     let mut r: u64 = 0;
@@ -111,8 +111,8 @@ pub fn put_listed(
     requires n_in_bounds { (offsets + w * (slot + n) ≤ length body.now) × (sizes + w * (slot + n) ≤ length body.now) × (slot + n < 2 ^ 63) }
     requires w_value { (w ≡ 4 → ⊥) → w ≡ 8 }
     requires total_value { total ≡ sum_of (λ r. entry w body.now sizes (slot + r)) n }
-    ensures room_value { result ≡ false → left room ≡ was room }
-    ensures did { result ≡ true → (source : ℕ) → Did (was plan) (was parts) write (named_stretches (lent_join plan parts lengths places body first source) w offsets sizes slot k n (was counters)) (was room) 0 (add_rows k total (was counters)) (left room) }
+    ensures room_value { result ≡ false → room.new ≡ room.old }
+    ensures did { result ≡ true → (source : ℕ) → Did (was plan) (was parts) write (named_stretches (lent_join plan parts lengths places body first source) w offsets sizes slot k n (was counters)) room.old 0 (add_rows k total (was counters)) room.new }
 {
     if !is_shuffled(body, offsets, sizes, w, slot, n) {
         return false;

@@ -16,7 +16,7 @@ use walk::plan_words;
 // m words of 4 bytes of body from `from` on into room at `at`.
 fn copy_words(room: &mut [u8], at: usize, body: &[u8], from: usize, m: usize)
     requires { (at + 4 * m ≤ length room.old) × (from + 4 * m ≤ length body.now) }
-    ensures { left room ≡ splice at (take (4 * m) (drop from (was body))) (was room) }
+    ensures { room.new ≡ splice at (take (4 * m) (drop from (was body))) room.old }
 {
     let mut q = 0;
     while q < m {
@@ -28,7 +28,7 @@ fn copy_words(room: &mut [u8], at: usize, body: &[u8], from: usize, m: usize)
 // n bytes of body from `from` on into room at `at`, a few of them by words.
 pub fn copy_few(room: &mut [u8], at: usize, body: &[u8], from: usize, n: usize)
     requires { (at + n ≤ length room.old) × (from + n ≤ length body.now) }
-    ensures { left room ≡ splice at (take n (drop from (was body))) (was room) }
+    ensures { room.new ≡ splice at (take n (drop from (was body))) room.old }
 {
     if 64 <= n {
         number::copy::copy_bytes(room, at, body, from, n);
@@ -54,7 +54,7 @@ fn put_few(
     n: u64,
 )
     requires { (k < 32) × (from + n ≤ length body.now) }
-    ensures { left room ≡ apply_if (was plan) (was parts) write (put k 1 o (take n (drop from (was body))) ∷ []) (was room) }
+    ensures { room.new ≡ apply_if (was plan) (was parts) write (put k 1 o (take n (drop from (was body))) ∷ []) room.old }
 {
     match plan_words::target(plan, parts, room.len(), write, k, 1, o, n) {
         plan_words::Goal::At(at) => copy_few(room, at, body, from, n as usize),

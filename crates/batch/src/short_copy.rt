@@ -6,7 +6,7 @@ ghost use Rattle.number.specs.Number.{splice};
 // 16 bytes of body at `from` into room at `at`.
 fn copy_16(room: &mut [u8], at: usize, body: &[u8], from: usize)
     requires { (at + 16 ≤ length room.old) × (from + 16 ≤ length body.now) }
-    ensures { left room ≡ splice at (take 16 (drop from (was body))) (was room) }
+    ensures { room.new ≡ splice at (take 16 (drop from (was body))) room.old }
 {
     number::write_u64(room, at, number::read_u64(body, from));
     number::write_u64(room, at + 8, number::read_u64(body, from + 8));
@@ -15,7 +15,7 @@ fn copy_16(room: &mut [u8], at: usize, body: &[u8], from: usize)
 // 32 bytes, likewise.
 fn copy_32(room: &mut [u8], at: usize, body: &[u8], from: usize)
     requires { (at + 32 ≤ length room.old) × (from + 32 ≤ length body.now) }
-    ensures { left room ≡ splice at (take 32 (drop from (was body))) (was room) }
+    ensures { room.new ≡ splice at (take 32 (drop from (was body))) room.old }
 {
     copy_16(room, at, body, from);
     copy_16(room, at + 16, body, from + 16);
@@ -24,7 +24,7 @@ fn copy_32(room: &mut [u8], at: usize, body: &[u8], from: usize)
 // w bytes of body at `from` into room at `at`.
 fn copy_word(room: &mut [u8], at: usize, body: &[u8], from: usize, w: usize)
     requires { (at + w ≤ length room.old) × (from + w ≤ length body.now) }
-    ensures { left room ≡ splice at (take w (drop from (was body))) (was room) }
+    ensures { room.new ≡ splice at (take w (drop from (was body))) room.old }
 {
     if w == 8 {
         number::write_u64(room, at, number::read_u64(body, from));
@@ -52,7 +52,7 @@ fn copy_word(room: &mut [u8], at: usize, body: &[u8], from: usize, w: usize)
 // n bytes of body at `from` into room at `at`: the first w of them, and the last w.
 fn copy_ends(room: &mut [u8], at: usize, body: &[u8], from: usize, n: usize, w: usize)
     requires { (at + n ≤ length room.old) × (from + n ≤ length body.now) × (w ≤ n) × (n ≤ w + w) }
-    ensures { left room ≡ splice at (take n (drop from (was body))) (was room) }
+    ensures { room.new ≡ splice at (take n (drop from (was body))) room.old }
 {
     copy_word(room, at, body, from, w);
     copy_word(room, at + (n - w), body, from + (n - w), w);
@@ -61,7 +61,7 @@ fn copy_ends(room: &mut [u8], at: usize, body: &[u8], from: usize, n: usize, w: 
 // n bytes of body at `from` into room at `at`.
 pub fn copy_short(room: &mut [u8], at: usize, body: &[u8], from: usize, n: usize)
     requires { (at + n ≤ length room.old) × (from + n ≤ length body.now) }
-    ensures { left room ≡ splice at (take n (drop from (was body))) (was room) }
+    ensures { room.new ≡ splice at (take n (drop from (was body))) room.old }
 {
     if n < 2 {
         number::copy::copy_bytes(room, at, body, from, n);

@@ -54,7 +54,7 @@ pub fn is_offset(w: u64, sum: u64) -> bool
 fn write_entry(room: &mut [u8], at: usize, w: u64, v: u64)
     requires w_in_bounds { at + w ≤ length room.old }
     requires w_value { (w ≡ 4 → ⊥) → w ≡ 8 }
-    ensures { left room ≡ splice at (encode w v) (was room) }
+    ensures { room.new ≡ splice at (encode w v) room.old }
 {
     if w == 4 {
         number::write_u32(room, at, (v % 4294967296) as u32);
@@ -76,7 +76,7 @@ fn write_sums_by(
 )
     requires n_in_bounds { (to + w * n ≤ length room.old) × (at + w * (slot + n) ≤ length body.now) × (slot + n < 2 ^ 63) × (rows + sum_of (λ q. entry w body.now at (slot + q)) n < 2 ^ 63) }
     requires w_value { (w ≡ 4 → ⊥) → w ≡ 8 }
-    ensures { left room ≡ splice to (numbers w (λ r. rows + sum_of (λ q. entry w (was body) at (slot + q)) r) n) (was room) }
+    ensures { room.new ≡ splice to (numbers w (λ r. rows + sum_of (λ q. entry w (was body) at (slot + q)) r) n) room.old }
 {
     let mut sum = rows;
     let mut r: u64 = 0;
@@ -100,7 +100,7 @@ fn write_sums(
 )
     requires n_in_bounds { (to + w * n ≤ length room.old) × (at + w * (slot + n) ≤ length body.now) × (slot + n < 2 ^ 63) × (rows + sum_of (λ q. entry w body.now at (slot + q)) n < 2 ^ 63) }
     requires w_value { (w ≡ 4 → ⊥) → w ≡ 8 }
-    ensures { left room ≡ splice to (numbers w (λ r. rows + sum_of (λ q. entry w (was body) at (slot + q)) r) n) (was room) }
+    ensures { room.new ≡ splice to (numbers w (λ r. rows + sum_of (λ q. entry w (was body) at (slot + q)) r) n) room.old }
 {
     if w == 4 {
         write_sums_by(room, to, 4, body, at, slot, n, rows);
@@ -126,7 +126,7 @@ pub fn put_sums(
 )
     requires i_bound { (i < 32) × (at + w * (slot + n) ≤ length body.now) × (slot + n < 2 ^ 63) × (rows + sum_of (λ q. entry w body.now at (slot + q)) n < 2 ^ 63) }
     requires w_value { (w ≡ 4 → ⊥) → w ≡ 8 }
-    ensures { left room ≡ apply_if (was plan) (was parts) write (put i 1 o (numbers w (λ r. rows + sum_of (λ q. entry w (was body) at (slot + q)) r) n) ∷ []) (was room) }
+    ensures { room.new ≡ apply_if (was plan) (was parts) write (put i 1 o (numbers w (λ r. rows + sum_of (λ q. entry w (was body) at (slot + q)) r) n) ∷ []) room.old }
 {
     match plan_words::target(
         plan,

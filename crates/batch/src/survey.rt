@@ -52,7 +52,7 @@ pub fn survey(
     requires n_in_bounds { (ids + (slot + n) ≤ length body.now) × (positions + 4 * (slot + n) ≤ length body.now) × (slot + n < 2 ^ 63) }
     requires begins_value { (begins.old ≡ replicate 32 0) × (taken.old ≡ replicate 32 0) × (ends.old ≡ replicate 32 0) }
     ensures sound_value { result.sound ≡ all_land (λ r. home_by (was homes) (was body) (ids + (slot + r))) (was counters) n }
-    ensures fallen { result.sound ≡ true → Fallen (λ r. home_by (was homes) (was body) (ids + (slot + r))) (λ r. entry 4 (was body) positions (slot + r)) n n result.whole (left begins) (left taken) (left ends) }
+    ensures fallen { result.sound ≡ true → Fallen (λ r. home_by (was homes) (was body) (ids + (slot + r))) (λ r. entry 4 (was body) positions (slot + r)) n n result.whole begins.new taken.new ends.new }
 {
     let mut whole = true;
     let mut r: u64 = 0;
@@ -107,7 +107,7 @@ fn write_lands(
     n: u64,
 )
     requires { (to + 4 * n ≤ length room.old) × (ids + (slot + n) ≤ length body.now) × (slot + n < 2 ^ 63) × (all_land (λ r. home_by homes.now body.now (ids + (slot + r))) counters.now n ≡ true) }
-    ensures { left room ≡ splice to (numbers 4 (lands_by (λ r. home_by (was homes) (was body) (ids + (slot + r))) (was counters)) n) (was room) }
+    ensures { room.new ≡ splice to (numbers 4 (lands_by (λ r. home_by (was homes) (was body) (ids + (slot + r))) (was counters)) n) room.old }
 {
     let mut lands = rows_of_all(counters);
     let mut r: u64 = 0;
@@ -136,7 +136,7 @@ pub fn put_lands(
     n: u64,
 )
     requires { (i < 32) × (ids + (slot + n) ≤ length body.now) × (slot + n < 2 ^ 63) × (all_land (λ r. home_by homes.now body.now (ids + (slot + r))) counters.now n ≡ true) }
-    ensures { left room ≡ apply_if (was plan) (was parts) write (put i 2 o (numbers 4 (lands_by (λ r. home_by (was homes) (was body) (ids + (slot + r))) (was counters)) n) ∷ []) (was room) }
+    ensures { room.new ≡ apply_if (was plan) (was parts) write (put i 2 o (numbers 4 (lands_by (λ r. home_by (was homes) (was body) (ids + (slot + r))) (was counters)) n) ∷ []) room.old }
 {
     match plan_words::target(
         plan,

@@ -41,7 +41,7 @@ pub fn put_chars(
     n: u64,
 )
     requires { (k < 32) × (from + n ≤ length body.now) }
-    ensures { left room ≡ apply_if (was plan) (was parts) write (put k 2 o (take n (drop from (was body))) ∷ []) (was room) }
+    ensures { room.new ≡ apply_if (was plan) (was parts) write (put k 2 o (take n (drop from (was body))) ∷ []) room.old }
 {
     match plan_words::target(plan, parts, room.len(), write, k, 2, o, n) {
         plan_words::Goal::At(at) => short_copy::copy_short(room, at, body, from, n as usize),
@@ -187,7 +187,7 @@ fn put_extended(
 ) -> u8
     requires first_bound { (first < 2 ^ 32) × (k < 32) × (from + w * (n + 1) ≤ length body.now) }
     requires w_value { (w ≡ 4 → ⊥) → w ≡ 8 }
-    ensures { AnyLengths plan parts places body first (λ j. Walks plan parts write (put_extended j k w from n (extended w (was body) from n (bytes (was counters) k))) counters room result) }
+    ensures { AnyLengths plan parts places body first (λ j. Walks plan parts write (put_extended j k w from n (extended w (was body) from n (bytes counters.old k))) counters room result) }
 {
     let last = plan_words::bytes_of(counters, k);
     match variable_size::try_offsets(body, from, w, n as usize, last) {

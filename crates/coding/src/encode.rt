@@ -214,7 +214,7 @@ fn write(
 ) -> u64
     requires sized { Sized (width_of (code_of formats.now schema.now target 1)) × Codable formats.now schema.now (tables lengths.now places.now body.now) first start end keep }
     requires room_for { RoomFor formats.now schema.now (tables lengths.now places.now body.now) first start end target plan.now parts.now keep (length room.old) }
-    ensures room_value { left room ≡ runs_in (was formats) (was schema) (tables (was lengths) (was places) (was body)) first start end target (was plan) (was parts) keep (was room) }
+    ensures room_value { room.new ≡ runs_in (was formats) (was schema) (tables (was lengths) (was places) (was body)) first start end target (was plan) (was parts) keep room.old }
     ensures value { result ≡ length (last_of (was formats) (was schema) (tables (was lengths) (was places) (was body)) first start end keep) }
 {
     let w = schema::formats::width_of(schema::code_of(formats, schema, first as usize, 0));
@@ -244,7 +244,7 @@ pub fn plan_encode(
     plan: &mut [u64],
     counters: &mut [u64],
 ) -> u8
-    ensures { Asks (encode_asked (was formats) (was schema) (lent_tables lengths places buffers body) first n target start end (was plan) (was counters)) result (left plan) (left counters) }
+    ensures { Asks (encode_asked (was formats) (was schema) (lent_tables lengths places buffers body) first n target start end plan.old counters.old) result plan.new counters.new }
 {
     let g = columns::column_ground(formats, schema, lengths, places, buffers, body, first, n);
     if g != 0 {

@@ -74,7 +74,7 @@ fn write_run(
     x: u64,
 )
     requires { Sized w × Sized e × Fits w masked e t.ends t.values t.mask (length room.old) (k + 1) × (r < 2 ^ 63) }
-    ensures { left room ≡ run_written w masked e t.ends t.values t.mask k r valid x (was room) }
+    ensures { room.new ≡ run_written w masked e t.ends t.values t.mask k r valid x room.old }
 {
     crate::run_coding::write_entry(room, t.ends + k * (e as usize), e, (r + 1) as u64);
     crate::run_coding::write_entry(
@@ -101,7 +101,7 @@ fn write_each(
 ) -> u64
     requires le_m { (1 ≤ m) × (m < 2 ^ 63) × Sized e × Held body.now w masked s.start s.mask s.bit m }
     requires fits { Fits w masked e t.ends t.values t.mask (length room.old) (length (last_rows body.now w masked s.start s.mask s.bit m)) }
-    ensures room_value { left room ≡ runs_written (was body) w masked s.start s.mask s.bit e t.ends t.values t.mask 0 (last_rows (was body) w masked s.start s.mask s.bit m) (was room) }
+    ensures room_value { room.new ≡ runs_written (was body) w masked s.start s.mask s.bit e t.ends t.values t.mask 0 (last_rows (was body) w masked s.start s.mask s.bit m) room.old }
     ensures value { result ≡ length (last_rows (was body) w masked s.start s.mask s.bit m) }
 {
     let mut k = 0;
@@ -136,7 +136,7 @@ pub fn write_runs(
 ) -> u64
     requires m_bound { (m < 2 ^ 63) × Sized e × Held body.now w masked s.start s.mask s.bit m }
     requires fits { Fits w masked e t.ends t.values t.mask (length room.old) (length (last_rows body.now w masked s.start s.mask s.bit m)) }
-    ensures room_value { left room ≡ runs_written (was body) w masked s.start s.mask s.bit e t.ends t.values t.mask 0 (last_rows (was body) w masked s.start s.mask s.bit m) (was room) }
+    ensures room_value { room.new ≡ runs_written (was body) w masked s.start s.mask s.bit e t.ends t.values t.mask 0 (last_rows (was body) w masked s.start s.mask s.bit m) room.old }
     ensures value { result ≡ length (last_rows (was body) w masked s.start s.mask s.bit m) }
 {
     if m == 0 {

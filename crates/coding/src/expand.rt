@@ -144,7 +144,7 @@ fn write(
 )
     requires start_le_end { (start ≤ end) × (start < end → Expandable formats.now schema.now (tables lengths.now places.now body.now) first start end keep) }
     requires rows_fit { RowsFit formats.now schema.now (tables lengths.now places.now body.now) first start end plan.now parts.now keep (length room.old) }
-    ensures { left room ≡ rows_in (was formats) (was schema) (tables (was lengths) (was places) (was body)) first start end (was plan) (was parts) keep (was room) }
+    ensures { room.new ≡ rows_in (was formats) (was schema) (tables (was lengths) (was places) (was body)) first start end (was plan) (was parts) keep room.old }
 {
     if start == end {
         return;
@@ -181,7 +181,7 @@ pub fn plan_expand(
     plan: &mut [u64],
     counters: &mut [u64],
 ) -> u8
-    ensures { Asks (expand_asked (was formats) (was schema) (lent_tables lengths places buffers body) first n target start end (was plan) (was counters)) result (left plan) (left counters) }
+    ensures { Asks (expand_asked (was formats) (was schema) (lent_tables lengths places buffers body) first n target start end plan.old counters.old) result plan.new counters.new }
 {
     let g = columns::column_ground(formats, schema, lengths, places, buffers, body, first, n);
     if g != 0 {

@@ -20,7 +20,7 @@ fn lesser(a: u64, b: u64) -> u64
 // The w lowest bytes of v, n times.
 fn fill(room: &mut [u8], at: usize, w: u8, n: usize, v: u64)
     requires { Sized w × (at + w * n ≤ length room.old) }
-    ensures { left room ≡ splice at (repeated w v n) (was room) }
+    ensures { room.new ≡ splice at (repeated w v n) room.old }
 {
     let mut i = 0;
     while i < n {
@@ -33,7 +33,7 @@ fn fill(room: &mut [u8], at: usize, w: u8, n: usize, v: u64)
 // compiler's stores stay within a line of the cache, and the last four. Blocks may lie over one another: no second loop is left.
 fn fill_fours(room: &mut [u8], at: usize, w: u8, n: usize, v: u64)
     requires { Sized w × (at + w * n ≤ length room.old) }
-    ensures { left room ≡ splice at (repeated w v n) (was room) }
+    ensures { room.new ≡ splice at (repeated w v n) room.old }
 {
     if n < 4 {
         fill(room, at, w, n, v);
@@ -52,7 +52,7 @@ fn fill_fours(room: &mut [u8], at: usize, w: u8, n: usize, v: u64)
 // The same; a loop for each width.
 fn fill_by(room: &mut [u8], at: usize, w: u8, n: usize, v: u64)
     requires { Sized w × (at + w * n ≤ length room.old) }
-    ensures { left room ≡ splice at (repeated w v n) (was room) }
+    ensures { room.new ≡ splice at (repeated w v n) room.old }
 {
     match w {
         1 => fill(room, at, 1, n, v),
@@ -74,7 +74,7 @@ fn write_run(
     x: u64,
 )
     requires { Sized w × Holds w masked t.values t.mask (length room.old) (r + n) }
-    ensures { left room ≡ rows_written w masked t.values t.mask r n valid x (was room) }
+    ensures { room.new ≡ rows_written w masked t.values t.mask r n valid x room.old }
 {
     fill_by(
         room,
@@ -105,7 +105,7 @@ fn write_each(
 )
     requires ends { Ends body.now e ends run x m count × Held body.now w masked s.start s.mask s.bit count }
     requires holds { Holds w masked t.values t.mask (length room.old) m }
-    ensures { left room ≡ rows_from (was body) w masked s.start s.mask s.bit e ends x m t.values t.mask m 0 run (was room) }
+    ensures { room.new ≡ rows_from (was body) w masked s.start s.mask s.bit e ends x m t.values t.mask m 0 run room.old }
 {
     let mut q = run;
     let mut r = 0;
@@ -138,7 +138,7 @@ pub fn write_rows(
 )
     requires ends { Ends body.now e ends run x m count × Held body.now w masked s.start s.mask s.bit count }
     requires holds { Holds w masked t.values t.mask (length room.old) m }
-    ensures { left room ≡ rows_from (was body) w masked s.start s.mask s.bit e ends x m t.values t.mask m 0 run (was room) }
+    ensures { room.new ≡ rows_from (was body) w masked s.start s.mask s.bit e ends x m t.values t.mask m 0 run room.old }
 {
     if masked {
         match w {

@@ -1,5 +1,6 @@
 // A fixed-width column into runs, and back (02, W1): the calls, over lent memory.
 #![tactic(auto)]
+
 pub mod encode;
 pub mod encode_rows;
 pub mod expand;

@@ -22,7 +22,7 @@ pub struct Row {
 // The words of the plan; the others are 0.
 pub fn write_words(row: Row, plan: &mut [u64])
     requires { (length plan.old ≡ 872) × (row.nulls ≤ 1) }
-    ensures { left plan ≡ row_plan_of row.code row.nullable row.nulls }
+    ensures { plan.new ≡ row_plan_of row.code row.nullable row.nulls }
 {
     result_plan::clear(plan);
     let k = row.nulls;
@@ -39,7 +39,7 @@ pub fn write_words(row: Row, plan: &mut [u64])
 // The counters of m rows.
 pub fn write_counters(m: u64, counters: &mut [u64])
     requires { length counters.old ≡ 96 }
-    ensures { left counters ≡ row_counts m }
+    ensures { counters.new ≡ row_counts m }
 {
     result_plan::clear(counters);
     counters[0] = m;

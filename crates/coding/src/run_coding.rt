@@ -63,7 +63,7 @@ pub fn is_change(a: bool, b: bool, x: u64, y: u64) -> bool
 // The w lowest bytes of v at `at`.
 pub fn write_entry(room: &mut [u8], at: usize, w: u8, v: u64)
     requires { Sized w × (at + w ≤ length room.old) }
-    ensures { left room ≡ splice at (encode w v) (was room) }
+    ensures { room.new ≡ splice at (encode w v) room.old }
 {
     match w {
         1 => number::write_u8(room, at, (v % 256) as u8),
@@ -76,7 +76,7 @@ pub fn write_entry(room: &mut [u8], at: usize, w: u8, v: u64)
 // n equal bits from the bit k of the byte `at` on.
 pub fn write_bits(room: &mut [u8], at: usize, k: usize, n: usize, v: bool)
     requires { 8 * at + k + n ≤ 8 * length room.old }
-    ensures { left room ≡ put_bits (8 * at + k) (replicate n (as_bit v)) (was room) }
+    ensures { room.new ≡ put_bits (8 * at + k) (replicate n (as_bit v)) room.old }
 {
     if v {
         bits::append_ones(room, at, k, n);

@@ -1,5 +1,6 @@
 // Whether lent columns (docs/FORMAT.md) are sources that a join takes, or which of the grounds 9 to 12 they meet.
 #![tactic(auto)]
+
 pub mod column_pair;
 
 ghost use Rattle.std.specs.Prelude.{◌≡◌, true, [], ◌+◌, ◌*◌, ◌≤◌, ◌<◌, ◌^◌};

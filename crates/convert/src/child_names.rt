@@ -23,7 +23,7 @@ fn tables_fit(n: u32, lengths: usize, nulls: usize, places: usize) -> bool
 // Lengths and offsets of the nodes below the root.
 fn write_lengths(lengths: &[u64], first: u32, n: u32, table: &mut [u64])
     requires { (1 ≤ n) × (length table.old ≡ 2 * n) }
-    ensures { left table ≡ take 2 (was table) ++ seg (λ k. get_or (was lengths) (2 * (first + 1) + k) 0) 0 (2 * (n - 1)) }
+    ensures { table.new ≡ take 2 table.old ++ seg (λ k. get_or (was lengths) (2 * (first + 1) + k) 0) 0 (2 * (n - 1)) }
 {
     let more = 2 * (n as usize - 1);
     let from = 2 * (first as usize + 1);
@@ -37,7 +37,7 @@ fn write_lengths(lengths: &[u64], first: u32, n: u32, table: &mut [u64])
 // Their null counts, from their bits.
 fn write_nulls(lengths: &[u64], places: &[u64], body: &[u8], first: u32, n: u32, table: &mut [u64])
     requires { (1 ≤ n) × (length table.old ≡ n) × ((j : ℕ) → j < n → Countable (tables lengths.now places.now body.now) (first + j)) }
-    ensures { left table ≡ take 1 (was table) ++ seg (λ k. null_count_of (array_of (tables (was lengths) (was places) (was body)) (first + 1 + k))) 0 (n - 1) }
+    ensures { table.new ≡ take 1 table.old ++ seg (λ k. null_count_of (array_of (tables (was lengths) (was places) (was body)) (first + 1 + k))) 0 (n - 1) }
 {
     let more = n as usize - 1;
     let from = first as usize + 1;
@@ -74,7 +74,7 @@ fn place_word(places: &[u64], nulls: &[u64], first: u32, k: usize) -> u64
 // Where their buffers stand.
 fn write_places(places: &[u64], nulls: &[u64], first: u32, n: u32, table: &mut [u64])
     requires { (1 ≤ n) × (length table.old ≡ 9 * n) }
-    ensures { left table ≡ take 9 (was table) ++ seg (below_place (was places) (was nulls) first) 0 (9 * (n - 1)) }
+    ensures { table.new ≡ take 9 table.old ++ seg (below_place (was places) (was nulls) first) 0 (9 * (n - 1)) }
 {
     let more = 9 * (n as usize - 1);
     let mut k = 0;

@@ -1,6 +1,7 @@
 // The converter between lists and list-views: which targets are due (this file), and for either way the question before any room is lent and the call.
 // A result is finished as a join is.
 #![tactic(auto)]
+
 pub mod child_names;
 pub mod lists;
 pub mod to_list;

@@ -37,7 +37,7 @@ fn end_row(
 )
     requires w_value { (w ≡ 4 → ⊥) → w ≡ 8 }
     requires r_bound { (r + 1 < 2 ^ 63) × ((r + 1) * w < 2 ^ 64) }
-    ensures { (lengths places body : List ℕ) (first : ℕ) → Did (was plan) (was parts) write (end_row (join (was plan) (was parts) lengths places body first 0) w r (was counters)) (was room) 0 (was counters) (left room) }
+    ensures { (lengths places body : List ℕ) (first : ℕ) → Did (was plan) (was parts) write (end_row (join (was plan) (was parts) lengths places body first 0) w r (was counters)) room.old 0 (was counters) room.new }
 {
     let v = plan_words::rows_of(counters, 1);
     room_writes::put_number(plan, parts, room, write, 0, 1, (r + 1) * w, w, v);

@@ -55,7 +55,7 @@ pub fn plan_list(
     plan: &mut [u64],
     counters: &mut [u64],
 ) -> u8
-    ensures { Asks (ask_list (was formats) (was schema) (lent_tables lengths places buffers body) first n target target_n (was plan) (was counters)) result (left plan) (left counters) }
+    ensures { Asks (ask_list (was formats) (was schema) (lent_tables lengths places buffers body) first n target target_n plan.old counters.old) result plan.new counters.new }
 {
     let g = ground_of(
         formats, schema, lengths, places, buffers, body, first, n, target, target_n,
@@ -107,7 +107,7 @@ fn make(
     requires plan_len { (length plan.old ≡ 872) × (length counters.old ≡ 96) × (length draft.now ≡ 872) }
     requires first_bound { offset_of (join [] [] lengths.now [] [] first 0) 0 + length_of (join [] [] lengths.now [] [] first 0) 0 < 2 ^ 63 }
     requires draft_value { (bytes_of draft.now 0 ≡ 4 → ⊥) → bytes_of draft.now 0 ≡ 8 }
-    ensures { (left plan ≡ was draft) × ((n : ℕ) → Did (was draft) (was parts) true (list_walk (lent_with (tables (was lengths) (was places) (was body)) (was draft) (was parts) first n) (replicate 96 0)) (was room) result (left counters) (left room)) }
+    ensures { (plan.new ≡ was draft) × ((n : ℕ) → Did (was draft) (was parts) true (list_walk (lent_with (tables (was lengths) (was places) (was body)) (was draft) (was parts) first n) (replicate 96 0)) room.old result counters.new room.new) }
 {
     let mut tally = [0u64; plan_words::COUNTERS];
     let g = crate::lists::list_walk(

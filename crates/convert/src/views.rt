@@ -29,7 +29,7 @@ fn view_row(
 )
     requires w_value { (w ≡ 4 → ⊥) → w ≡ 8 }
     requires fact { let j = join [] [] lengths.now places.now body.now first 0 in (slot ≡ offset_of j 0) × (slot + r + 2 < 2 ^ 64) × ((r + 1) * w < 2 ^ 64) × (place j 0 3 + w * (slot + r + 2) ≤ length body.now) }
-    ensures { Did (was plan) (was parts) write (view_row (lent_join plan parts lengths places body first 0) w r (was counters)) (was room) 0 (was counters) (left room) }
+    ensures { Did (was plan) (was parts) write (view_row (lent_join plan parts lengths places body first 0) w r (was counters)) room.old 0 (was counters) room.new }
 {
     let at = lent_tables::place(places, first as usize, 3);
     let start = lookups::entry_at(body, at, w, slot + r);
@@ -62,7 +62,7 @@ fn less_u32(a: u32, b: u32) -> u32
 // Of n rows whose offsets of 4 bytes stand at `from`: each row's offset at `at` and its size at `too`.
 fn lay_4(room: &mut [u8], at: usize, too: usize, body: &[u8], from: usize, n: usize)
     requires { (at + 4 * n ≤ length room.old) × (too + 4 * n ≤ length room.old) × (from + 4 * (n + 1) ≤ length body.now) }
-    ensures { left room ≡ laid_rows 4 (was body) from at too n 0 (was room) }
+    ensures { room.new ≡ laid_rows 4 (was body) from at too n 0 room.old }
 {
     let mut i = 0;
     while i < n {
@@ -77,7 +77,7 @@ fn lay_4(room: &mut [u8], at: usize, too: usize, body: &[u8], from: usize, n: us
 // Of n rows whose offsets of 8 bytes stand at `from`: each row's offset at `at` and its size at `too`.
 fn lay_8(room: &mut [u8], at: usize, too: usize, body: &[u8], from: usize, n: usize)
     requires { (at + 8 * n ≤ length room.old) × (too + 8 * n ≤ length room.old) × (from + 8 * (n + 1) ≤ length body.now) }
-    ensures { left room ≡ laid_rows 8 (was body) from at too n 0 (was room) }
+    ensures { room.new ≡ laid_rows 8 (was body) from at too n 0 room.old }
 {
     let mut i = 0;
     while i < n {
@@ -93,7 +93,7 @@ fn lay_8(room: &mut [u8], at: usize, too: usize, body: &[u8], from: usize, n: us
 fn lay_rows(room: &mut [u8], at: usize, too: usize, body: &[u8], from: usize, w: u64, n: usize)
     requires w_value { (w ≡ 4 → ⊥) → w ≡ 8 }
     requires n_in_bounds { (at + w * n ≤ length room.old) × (too + w * n ≤ length room.old) × (from + w * (n + 1) ≤ length body.now) }
-    ensures { left room ≡ laid_rows w (was body) from at too n 0 (was room) }
+    ensures { room.new ≡ laid_rows w (was body) from at too n 0 room.old }
 {
     match w {
         4 => lay_4(room, at, too, body, from, n),
@@ -117,7 +117,7 @@ fn put_row_by_row(
 )
     requires w_value { (w ≡ 4 → ⊥) → w ≡ 8 }
     requires fact { let j = join [] [] lengths.now places.now body.now first 0 in (slot ≡ offset_of j 0) × (slot + n < 2 ^ 63) × (place j 0 3 + w * (slot + (n + 1)) ≤ length body.now) }
-    ensures { Did (was plan) (was parts) true (each (view_row (lent_join plan parts lengths places body first 0) w) n 0 (was counters)) (was room) 0 (was counters) (left room) }
+    ensures { Did (was plan) (was parts) true (each (view_row (lent_join plan parts lengths places body first 0) w) n 0 (was counters)) room.old 0 (was counters) room.new }
 {
     let mut r: u64 = 0;
     while r < n {
@@ -146,7 +146,7 @@ fn put_rows_at(
     requires w_value { (w ≡ 4 → ⊥) → w ≡ 8 }
     requires fact { let j = join [] [] lengths.now places.now body.now first 0 in (slot ≡ offset_of j 0) × (slot + n < 2 ^ 63) × (place j 0 3 + w * (slot + (n + 1)) ≤ length body.now) }
     requires at_value { (at ≡ start_of plan.now parts.now 0 1) × (at + w * n ≤ length room.old) }
-    ensures { Did (was plan) (was parts) true (each (view_row (lent_join plan parts lengths places body first 0) w) n 0 (was counters)) (was room) 0 (was counters) (left room) }
+    ensures { Did (was plan) (was parts) true (each (view_row (lent_join plan parts lengths places body first 0) w) n 0 (was counters)) room.old 0 (was counters) room.new }
 {
     let size = plan_words::scale(n, w);
     let from = lent_tables::place(places, first as usize, 3) + w * slot;
@@ -174,7 +174,7 @@ fn put_rows(
 )
     requires w_value { (w ≡ 4 → ⊥) → w ≡ 8 }
     requires fact { let j = join [] [] lengths.now places.now body.now first 0 in (slot ≡ offset_of j 0) × (slot + n < 2 ^ 63) × (place j 0 3 + w * (slot + (n + 1)) ≤ length body.now) }
-    ensures { Did (was plan) (was parts) true (each (view_row (lent_join plan parts lengths places body first 0) w) n 0 (was counters)) (was room) 0 (was counters) (left room) }
+    ensures { Did (was plan) (was parts) true (each (view_row (lent_join plan parts lengths places body first 0) w) n 0 (was counters)) room.old 0 (was counters) room.new }
 {
     let size = plan_words::scale(n, w);
     match plan_words::target(plan, parts, room.len(), true, 0, 1, 0, size) {
@@ -204,7 +204,7 @@ fn view_rows(
 ) -> u8
     requires w_value { (w ≡ 4 → ⊥) → w ≡ 8 }
     requires slot_value { (slot ≡ offset_of (join [] [] lengths.now places.now body.now first 0) 0) × (slot + n < 2 ^ 63) }
-    ensures { Did (was plan) (was parts) write (view_rows (lent_join plan parts lengths places body first 0) w n (was counters)) (was room) result (was counters) (left room) }
+    ensures { Did (was plan) (was parts) write (view_rows (lent_join plan parts lengths places body first 0) w n (was counters)) room.old result (was counters) room.new }
 {
     if n == 0 {
         return 0;

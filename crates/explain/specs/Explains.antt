@@ -1,6 +1,6 @@
 -- One order of a plan and counters that an order can be walked with: what stops it, and the counters that an accepted one leaves. Assumes nothing.
 use Rattle.std.specs.Prelude.{◌≡◌, cond, ◌&&◌, List, ℕ, ◌-◌, leb, ltb, eqb}
-use Rattle.clauses.specs.Slices.{was, Slice}
+use Rattle.clauses.specs.Slices.{began, left, MutSlice}
 use Rattle.walk.specs.State.{keeps_of}
 use Rattle.walk.specs.Log.{Out}
 use Rattle.walk.specs.Copy.{copy_walk}
@@ -20,8 +20,8 @@ pub record Settles (x : Lent) (m : ℕ) (c : List ℕ) (n : ℕ) (o : Out) (v w 
   pub left : w.refusal ≡ 0 → (o.ans ≡ 0) × (c2 ≡ o.counters)
 
 -- .. both from the counters as they are lent
-abbrev pub Settled : ℕ → (counters : Slice) → ℕ → (List ℕ → Out) → (List ℕ → Why) → Why → Lent → Type 0
-Settled m counters n walk why w x = Settles x m (was counters) n (walk (was counters)) (why (was counters)) w counters.exit.now
+abbrev pub Settled : ℕ → (counters : MutSlice) → ℕ → (List ℕ → Out) → (List ℕ → Why) → Why → Lent → Type 0
+Settled m counters n walk why w x = Settles x m (began counters) n (walk (began counters)) (why (began counters)) w counters.exit.now
 
 -- `whyOrder` (stops/specs/Order.antt) without its first 14
 abbrev pub why_call : Lent → ℕ → List ℕ → Call → Why

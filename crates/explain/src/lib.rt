@@ -1,6 +1,7 @@
 // Tells which node stopped an order: the ground, the node, the row, and the numbers that clash. Nothing that is lent is written: the walk changes
 // a copy of the counters, and of the room the length alone is asked.
 #![tactic(auto)]
+
 ghost use Rattle.std.specs.Prelude.{◌≡◌, true, ◌+◌, ◌<◌, ◌≤◌, ◌/◌, ◌^◌, min, length};
 ghost use Rattle.clauses.specs.Slices.{was, left};
 ghost use Rattle.model.specs.Book.{copy, nulls};
@@ -137,7 +138,7 @@ fn order_copy(
     end: u64,
 ) -> Why
     requires { m < top }
-    ensures { Explains (lent_all plan parts sources lengths places body) m (copy source start end) (was counters) result (left counters) }
+    ensures { Explains (lent_all plan parts sources lengths places body) m (copy source start end) counters.old result counters.new }
 {
     if lent_tables::at_u64(plan, plan_words::SOURCE_COUNT) <= source as u64 {
         return crate::stop_walks::plain(NO_SUCH_SOURCE);
@@ -170,7 +171,7 @@ fn order_nulls(
     n: u64,
 ) -> Why
     requires { m < top }
-    ensures { AnyLent plan parts (λ l. Explains l m (nulls n) (was counters) result (left counters)) }
+    ensures { AnyLent plan parts (λ l. Explains l m (nulls n) counters.old result counters.new) }
 {
     if plan_words::keeps_of(plan, 0) == 0 {
         return crate::stop_walks::plain(KEEPS_NO_NULLS);
@@ -202,7 +203,7 @@ fn order_at(
     k: usize,
 ) -> Why
     requires { (k < 256) × (m < top) }
-    ensures { Explains (lent_all plan parts sources lengths places body) m (call_at (was orders) k) (was counters) result (left counters) }
+    ensures { Explains (lent_all plan parts sources lengths places body) m (call_at (was orders) k) counters.old result counters.new }
 {
     let kind = lent_tables::at_u64(orders, 4 * k);
     let a = lent_tables::at_u64(orders, 4 * k + 1);

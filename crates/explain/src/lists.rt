@@ -39,7 +39,7 @@ fn list_row(
     requires first_bound { (first < 2 ^ 32) × (source < 2 ^ 32) × (i + 1 < 32) × (slot + r + 1 < 2 ^ 63) }
     requires w_value { (w ≡ 4 → ⊥) → w ≡ 8 }
     requires fact { let j = join [] [] lengths.now places.now body.now first 0 in (place j i 3 + w * (slot + r + 1) ≤ length body.now) × (place j i 5 + w * (slot + r + 1) ≤ length body.now) }
-    ensures { let j = lent_join plan parts lengths places body first source in RowAt j depth (λ c. list_view_row j c w) (λ c y. why_list_row j c y w) i slot r (was counters) result (left counters) }
+    ensures { let j = lent_join plan parts lengths places body first source in RowAt j depth (λ c. list_view_row j c w) (λ c y. why_list_row j c y w) i slot r counters.old result counters.new }
 {
     let offset = lookups::entry_at(body, lent_tables::place(places, first + i, 3), w, slot + r);
     let size = lookups::entry_at(body, lent_tables::place(places, first + i, 5), w, slot + r);
@@ -87,7 +87,7 @@ pub fn step_list_view(
 ) -> Step
     requires first_bound { (first < 2 ^ 32) × (source < 2 ^ 32) × (i < 32) × (slot + n < 2 ^ 63) }
     requires w_value { (w ≡ 4 → ⊥) → w ≡ 8 }
-    ensures { let j = lent_join plan parts lengths places body first source in Says j depth (λ c y. why_list_view j c y w i slot n) (was counters) result (left counters) }
+    ensures { let j = lent_join plan parts lengths places body first source in Says j depth (λ c y. why_list_view j c y w i slot n) counters.old result counters.new }
 {
     if 32 <= i + 1 {
         return Step::Here(crate::stop_walks::plain(FOREIGN));

@@ -42,7 +42,7 @@ pub fn try_nulls(
     n: u64,
     depth: u32,
 ) -> u8
-    ensures { Tried (null_walk (null_join plan parts) depth i (walked n) (was counters)) (was counters) result (left counters) }
+    ensures { Tried (null_walk (null_join plan parts) depth i (walked n) counters.old) counters.old result counters.new }
 {
     let before = *counters;
     let mut none = [0u8; 0];
@@ -64,7 +64,7 @@ fn step_into(
     n: u64,
     depth: u32,
 ) -> NullStep
-    ensures { RowSays (null_walk (null_join plan parts) depth k (walked n) (was counters)) (why_nulls (null_join plan parts) depth k n (was counters)) (null_join plan parts) depth result (left counters) }
+    ensures { RowSays (null_walk (null_join plan parts) depth k (walked n) counters.old) (why_nulls (null_join plan parts) depth k n counters.old) (null_join plan parts) depth result counters.new }
 {
     let g = try_nulls(plan, parts, counters, k, n, depth);
     if g != 0 {
@@ -99,7 +99,7 @@ fn step_sparse(
     depth: u32,
 ) -> NullStep
     requires { i < 32 }
-    ensures { let j = null_join plan parts in why_null_sparse j (null_walk j depth) (why_nulls j depth) i n (was counters) ≡ why_after j depth result (left counters) }
+    ensures { let j = null_join plan parts in why_null_sparse j (null_walk j depth) (why_nulls j depth) i n counters.old ≡ why_after j depth result counters.new }
 {
     if 32 <= nested_rows::null_home(plan, i) {
         return NullStep::Here(homeless(plan, i));
@@ -188,7 +188,7 @@ fn step_run(
     depth: u32,
 ) -> NullStep
     requires { i < 32 }
-    ensures { let j = null_join plan parts in why_null_runs j (null_walk j depth) (why_nulls j depth) i n (was counters) ≡ why_after j depth result (left counters) }
+    ensures { let j = null_join plan parts in why_null_runs j (null_walk j depth) (why_nulls j depth) i n counters.old ≡ why_after j depth result counters.new }
 {
     if !nested_rows::has_ends(plan, i) {
         return NullStep::Here(crate::stop_walks::plain(FOREIGN));
@@ -218,7 +218,7 @@ fn step_data(
     depth: u32,
 ) -> NullStep
     requires { i < 32 }
-    ensures { let j = null_join plan parts in why_null_data j (null_walk j depth) (why_nulls j depth) (code_of (was plan) i) i n (was counters) ≡ why_after j depth result (left counters) }
+    ensures { let j = null_join plan parts in why_null_data j (null_walk j depth) (why_nulls j depth) (code_of (was plan) i) i n counters.old ≡ why_after j depth result counters.new }
 {
     let code = plan_words::code_of(plan, i);
     if code == nested_rows::node_data::SPARSE {
@@ -245,7 +245,7 @@ fn step_node(
     n: u64,
     depth: u32,
 ) -> NullStep
-    ensures { let j = null_join plan parts in why_null_node j (null_walk j depth) (why_nulls j depth) i n (was counters) ≡ why_after j depth result (left counters) }
+    ensures { let j = null_join plan parts in why_null_node j (null_walk j depth) (why_nulls j depth) i n counters.old ≡ why_after j depth result counters.new }
 {
     if n == 0 {
         return NullStep::On;
@@ -265,7 +265,7 @@ pub fn why_null_walk(
     n: u64,
     depth: u32,
 ) -> Why
-    ensures { result ≡ why_nulls (null_join plan parts) depth i n (was counters) }
+    ensures { result ≡ why_nulls (null_join plan parts) depth i n counters.old }
 {
     let mut left = depth;
     let mut node = i;

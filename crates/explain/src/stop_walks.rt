@@ -72,7 +72,7 @@ pub fn try_copy(
     depth: u32,
 ) -> u8
     requires { (first < 2 ^ 32) × (source < 2 ^ 32) }
-    ensures { Tried (copy_walk (lent_join plan parts lengths places body first source) depth i a n (was counters)) (was counters) result (left counters) }
+    ensures { Tried (copy_walk (lent_join plan parts lengths places body first source) depth i a n counters.old) counters.old result counters.new }
 {
     let before = *counters;
     let mut none = [0u8; 0];
@@ -103,7 +103,7 @@ pub fn step_into(
     depth: u32,
 ) -> Step
     requires { (first < 2 ^ 32) × (source < 2 ^ 32) }
-    ensures { let j = lent_join plan parts lengths places body first source in RowSays (copy_walk j depth k a n (was counters)) (why_copy j depth k a n (was counters)) j depth result (left counters) }
+    ensures { let j = lent_join plan parts lengths places body first source in RowSays (copy_walk j depth k a n counters.old) (why_copy j depth k a n counters.old) j depth result counters.new }
 {
     let g = try_copy(
         plan, parts, lengths, places, body, counters, source, first, k, a, n, depth,
@@ -136,7 +136,7 @@ fn step_data(
     depth: u32,
 ) -> Step
     requires { (first < 2 ^ 32) × (source < 2 ^ 32) × (i < 32) × (slot + n < 2 ^ 63) }
-    ensures { let j = lent_join plan parts lengths places body first source in Says j depth (λ c y. why_data j c y (code_of (was plan) i) i slot n) (was counters) result (left counters) }
+    ensures { let j = lent_join plan parts lengths places body first source in Says j depth (λ c y. why_data j c y (code_of (was plan) i) i slot n) counters.old result counters.new }
 {
     let code = plan_words::code_of(plan, i);
     let w = lookups::width_at(plan, i);
@@ -187,7 +187,7 @@ fn step_node(
     depth: u32,
 ) -> Step
     requires { (first < 2 ^ 32) × (source < 2 ^ 32) }
-    ensures { let j = lent_join plan parts lengths places body first source in Says j depth (λ c y. why_node j c y i a n) (was counters) result (left counters) }
+    ensures { let j = lent_join plan parts lengths places body first source in Says j depth (λ c y. why_node j c y i a n) counters.old result counters.new }
 {
     if 32 <= i {
         return Step::Here(plain(FOREIGN));
@@ -224,7 +224,7 @@ pub fn why_walk(
     depth: u32,
 ) -> Why
     requires { (first < 2 ^ 32) × (source < 2 ^ 32) }
-    ensures { result ≡ why_copy (lent_join plan parts lengths places body first source) depth i a n (was counters) }
+    ensures { result ≡ why_copy (lent_join plan parts lengths places body first source) depth i a n counters.old }
 {
     let mut left = depth;
     let mut node = i;

@@ -34,7 +34,7 @@ pub fn step_sparse(
     depth: u32,
 ) -> Step
     requires { (first < 2 ^ 32) × (source < 2 ^ 32) × (i < 32) × (slot + n < 2 ^ 63) }
-    ensures { let j = lent_join plan parts lengths places body first source in Says j depth (λ c y. why_sparse j c y i slot n) (was counters) result (left counters) }
+    ensures { let j = lent_join plan parts lengths places body first source in Says j depth (λ c y. why_sparse j c y i slot n) counters.old result counters.new }
 {
     if !leaf_walk::rows_in(body, lent_tables::place(places, first + i, 3), 1, slot, n) {
         return Step::Here(crate::stop_walks::plain(FOREIGN));
@@ -77,7 +77,7 @@ fn dense_row(
 ) -> Step
     requires first_bound { (first < 2 ^ 32) × (source < 2 ^ 32) × (i < 32) × (slot + r + 1 < 2 ^ 63) }
     requires fact { let j = join [] [] lengths.now places.now body.now first 0 in (place j i 3 + (slot + r + 1) ≤ length body.now) × (place j i 5 + 4 * (slot + r + 1) ≤ length body.now) }
-    ensures { let j = lent_join plan parts lengths places body first source in RowAt j depth (dense_row j) (why_dense_row j) i slot r (was counters) result (left counters) }
+    ensures { let j = lent_join plan parts lengths places body first source in RowAt j depth (dense_row j) (why_dense_row j) i slot r counters.old result counters.new }
 {
     let at = lent_tables::place(places, first + i, 3) + (slot + r);
     let id = body[at as usize];
@@ -117,7 +117,7 @@ pub fn step_dense(
     depth: u32,
 ) -> Step
     requires { (first < 2 ^ 32) × (source < 2 ^ 32) × (i < 32) × (slot + n < 2 ^ 63) }
-    ensures { let j = lent_join plan parts lengths places body first source in Says j depth (λ c y. why_dense j c y i slot n) (was counters) result (left counters) }
+    ensures { let j = lent_join plan parts lengths places body first source in Says j depth (λ c y. why_dense j c y i slot n) counters.old result counters.new }
 {
     if !nested_rows::pairs_in(places, body, first, i, 1, 4, slot, n) {
         return Step::Here(crate::stop_walks::plain(FOREIGN));

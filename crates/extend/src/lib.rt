@@ -2,6 +2,7 @@
 // depth falls. The answer is 0 or the ground of refusal; a walk that only tries changes the counters alone, and one of nulls reads no source.
 // Follows arrow-data 60.1.0 src/transform/mod.rs, Apache-2.0; see NOTICE.
 #![tactic(auto)]
+
 ghost use Rattle.std.specs.Prelude.{◌≡◌, true, ◌||◌, [], ◌+◌, ◌<◌, ◌^◌};
 ghost use Rattle.clauses.specs.Slices.{was};
 ghost use Rattle.schema.specs.formats.Code.{is_list_view, is_list};

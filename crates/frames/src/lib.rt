@@ -1,5 +1,6 @@
 // The box around a trip's stops: the smallest and largest latitude and longitude of a range of rows, as one frame.
 #![tactic(auto)]
+
 pub mod float_order;
 
 ghost use Rattle.std.specs.Prelude.{◌≡◌, true, false, not, ◌&&◌, [], ◌+◌, ◌*◌, ◌≤◌, ◌<◌, ◌^◌, length};

@@ -57,7 +57,7 @@ pub fn count_before(plan: &[u64], sources: &[u32], places: &[u64], n: usize) -> 
 // n numbers of a table from pair `from` on, 0 past its end, into another at number `at`.
 fn copy_names(buffers: &[u64], from: u64, n: usize, names: &mut [u64], at: usize)
     requires { at + n ≤ length names.old }
-    ensures { Behind (was names) (left names) at n (seg (λ q. get_or (was buffers) q 0) (2 * from) n) }
+    ensures { Behind names.old names.new at n (seg (λ q. get_or (was buffers) q 0) (2 * from) n) }
 {
     let mut q = 0;
     while q < n {
@@ -77,7 +77,7 @@ fn view_names(
     at: usize,
 )
     requires { (i < 32) × (at + 2 * view_count plan.now sources.now places.now i ≤ length names.old) }
-    ensures { Behind (was names) (left names) at (2 * view_count (was plan) (was sources) (was places) i) (view_names (was plan) (was sources) (was places) (was buffers) i) }
+    ensures { Behind names.old names.new at (2 * view_count (was plan) (was sources) (was places) i) (view_names (was plan) (was sources) (was places) (was buffers) i) }
 {
     let m = source_count(plan);
     let mut end = at;
@@ -103,7 +103,7 @@ fn node_names(
     at: usize,
 )
     requires { (i < 32) × (at + 2 * count_at plan.now sources.now places.now i ≤ length names.old) }
-    ensures { Behind (was names) (left names) at (2 * count_at (was plan) (was sources) (was places) i) (names_at (was plan) (was sources) (was places) (was buffers) i) }
+    ensures { Behind names.old names.new at (2 * count_at (was plan) (was sources) (was places) i) (names_at (was plan) (was sources) (was places) (was buffers) i) }
 {
     if schema::formats::is_view(plan_words::code_of(plan, i)) {
         view_names(plan, sources, places, buffers, i, names, at);
@@ -119,7 +119,7 @@ pub fn write_buffers(
     names: &mut [u64],
 )
     requires { length names.old ≡ 2 * count_before plan.now sources.now places.now (nodes_of plan.now) }
-    ensures { left names ≡ names_before (was plan) (was sources) (was places) (was buffers) (nodes_of (was plan)) }
+    ensures { names.new ≡ names_before (was plan) (was sources) (was places) (was buffers) (nodes_of (was plan)) }
 {
     let n = plan::parts::node_count(plan);
     let mut at = 0;

@@ -59,7 +59,7 @@ pub fn write_lengths(
     table: &mut [u64],
 )
     requires { length table.old ≡ 2 * nodes_of plan.now }
-    ensures { left table ≡ length_table (lent (was plan) [] (was sources) (was lengths) [] []) [] (was counters) [] 0 }
+    ensures { table.new ≡ length_table (lent (was plan) [] (was sources) (was lengths) [] []) [] (was counters) [] 0 }
 {
     let n = 2 * plan::parts::node_count(plan);
     let mut q = 0;
@@ -174,7 +174,7 @@ pub fn write_nulls(
     table: &mut [u64],
 )
     requires { let p = plan.now in (length table.old ≡ nodes_of p) × AllBitsIn p parts.now counters.now room.now × (all_kept p sources.now lengths.now places.now body.now ≡ true) }
-    ensures { left table ≡ null_table (lent_all plan parts sources lengths places body) [] (was counters) (was room) 0 }
+    ensures { table.new ≡ null_table (lent_all plan parts sources lengths places body) [] (was counters) (was room) 0 }
 {
     let n = plan::parts::node_count(plan);
     let mut i = 0;

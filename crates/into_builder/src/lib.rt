@@ -1,6 +1,7 @@
 // The finished array of a join on lent memory: the tables that say where it stands (docs/FORMAT.md). No byte of it is moved.
 // Follows `into_builder` of arrow-data 60.1.0 src/transform/mod.rs, Apache-2.0; see NOTICE.
 #![tactic(auto)]
+
 pub mod buffers;
 pub mod counts;
 pub mod places;

@@ -211,7 +211,7 @@ pub fn write_places(
     table: &mut [u64],
 )
     requires { (length table.old ≡ 9 * nodes_of plan.now) × ((i : ℕ) → i < nodes_of plan.now → Placed plan.now parts.now counters.now base i) }
-    ensures { AnyBody plan parts sources places (λ l buffers room. was nulls ≡ null_table l [] (was counters) room 0 → left table ≡ place_table l buffers (was counters) room base) }
+    ensures { AnyBody plan parts sources places (λ l buffers room. was nulls ≡ null_table l [] (was counters) room 0 → table.new ≡ place_table l buffers (was counters) room base) }
 {
     let n = 9 * plan::parts::node_count(plan);
     let mut q = 0;

@@ -55,8 +55,8 @@ pub extern "C" fn lafkuno_frame(
     end: u64,
     room: &mut [f64],
 ) -> u8
-    ensures value { result ≡ frame_ground (box_of (was formats) (was schema) (lent_tables lengths places buffers body) first_a n_a first_b n_b start end) (was room) }
-    ensures room_after { room.new ≡ frame_after (box_of (was formats) (was schema) (lent_tables lengths places buffers body) first_a n_a first_b n_b start end) (was room) }
+    ensures value { result ≡ frame_ground (box_of (was formats) (was schema) (lent_tables lengths places buffers body) first_a n_a first_b n_b start end) room.old }
+    ensures room_after { room.new ≡ frame_after (box_of (was formats) (was schema) (lent_tables lengths places buffers body) first_a n_a first_b n_b start end) room.old }
 {
     let answer = frames::box_of(
         formats, schema, lengths, places, buffers, body, first_a, n_a, first_b, n_b, start, end,

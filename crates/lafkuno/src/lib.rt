@@ -1,5 +1,6 @@
 // The library as calls for other languages (include/lafkuno.h). Every call is defined for whatever it is lent.
 #![tactic(auto)]
+
 ghost use Rattle.std.specs.Prelude.{◌≡◌, List, [], ℕ};
 ghost use Rattle.clauses.specs.Slices.{was, left};
 ghost use Rattle.walk.specs.State.{nulls};
@@ -42,7 +43,7 @@ pub extern "C" fn lafkuno_plan_parts(
     gaps: u8,
     plan: &mut [u64],
 ) -> u8
-    ensures { Plans (asked (was formats) (was schema) (was sources) (lent_tables lengths places buffers body) (keeps keep) (grows gaps) (was plan)) result (left plan) }
+    ensures { Plans (asked (was formats) (was schema) (was sources) (lent_tables lengths places buffers body) (keeps keep) (grows gaps) plan.old) result plan.new }
 {
     with_capacities::plan_parts(
         sources,
@@ -141,7 +142,7 @@ pub extern "C" fn lafkuno_copy(
     start: u64,
     end: u64,
 ) -> u8
-    ensures { Answers (copy_order (lent_all plan parts sources lengths places body) (was counters) (was room) source start end) result (left counters) (left room) }
+    ensures { Answers (copy_order (lent_all plan parts sources lengths places body) counters.old room.old source start end) result counters.new room.new }
 {
     transform::try_extend(
         plan, parts, sources, lengths, places, body, counters, room, source, start, end,
@@ -157,7 +158,7 @@ pub extern "C" fn lafkuno_nulls(
     room: &mut [u8],
     n: u64,
 ) -> u8
-    ensures { AnyLent plan parts (λ l. Answers (null_order l (was counters) (was room) n) result (left counters) (left room)) }
+    ensures { AnyLent plan parts (λ l. Answers (null_order l counters.old room.old n) result counters.new room.new) }
 {
     transform::try_extend_nulls(plan, parts, counters, room, n)
 }
@@ -230,7 +231,7 @@ pub extern "C" fn lafkuno_measure_open(
     body: &[u8],
     counters: &mut [u64],
 ) -> u8
-    ensures { Measures (open_measure (lent (was plan) [] (was sources) (was lengths) (was places) (was body)) (was counters)) result (left counters) }
+    ensures { Measures (open_measure (lent (was plan) [] (was sources) (was lengths) (was places) (was body)) counters.old) result counters.new }
 {
     measure::measure_open(plan, sources, lengths, places, body, counters)
 }
@@ -248,7 +249,7 @@ pub extern "C" fn lafkuno_measure_copy(
     start: u64,
     end: u64,
 ) -> u8
-    ensures { Measures (copy_measure (was counters) (lent (was plan) [] (was sources) (was lengths) (was places) (was body)) source start end) result (left counters) }
+    ensures { Measures (copy_measure counters.old (lent (was plan) [] (was sources) (was lengths) (was places) (was body)) source start end) result counters.new }
 {
     measure::measure_extend(
         plan, sources, lengths, places, body, counters, source, start, end,
@@ -258,7 +259,7 @@ pub extern "C" fn lafkuno_measure_copy(
 // What n nulls come to in such a room: 0 and the counters after them, or the ground of refusal.
 #[unsafe(no_mangle)]
 pub extern "C" fn lafkuno_measure_nulls(plan: &[u64], counters: &mut [u64], n: u64) -> u8
-    ensures { (sources lengths places body : List ℕ) → Measures (null_measure (was counters) (lent (was plan) [] sources lengths places body) n) result (left counters) }
+    ensures { (sources lengths places body : List ℕ) → Measures (null_measure counters.old (lent (was plan) [] sources lengths places body) n) result counters.new }
 {
     measure::measure_nulls(plan, counters, n)
 }

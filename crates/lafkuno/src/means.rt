@@ -58,8 +58,8 @@ pub extern "C" fn lafkuno_mean(
     end: u64,
     answer: &mut [u64],
 ) -> u8
-    ensures value { result ≡ mean_ground (mean_report (was formats) (was schema) (lent_tables lengths places buffers body) first n start end) (was answer) }
-    ensures answer_value { left answer ≡ mean_numbers (mean_report (was formats) (was schema) (lent_tables lengths places buffers body) first n start end) (was answer) }
+    ensures value { result ≡ mean_ground (mean_report (was formats) (was schema) (lent_tables lengths places buffers body) first n start end) answer.old }
+    ensures answer_value { answer.new ≡ mean_numbers (mean_report (was formats) (was schema) (lent_tables lengths places buffers body) first n start end) answer.old }
 {
     match aggregates::mean(
         formats, schema, lengths, places, buffers, body, first, n, start, end,
@@ -94,8 +94,8 @@ pub extern "C" fn lafkuno_ratio(
     end: u64,
     answer: &mut [u64],
 ) -> u8
-    ensures value { result ≡ ratio_ground (ratio_report (was formats) (was schema) (lent_tables lengths places buffers body) first_a n_a first_b n_b start end) (was answer) }
-    ensures answer_value { left answer ≡ ratio_numbers (ratio_report (was formats) (was schema) (lent_tables lengths places buffers body) first_a n_a first_b n_b start end) (was answer) }
+    ensures value { result ≡ ratio_ground (ratio_report (was formats) (was schema) (lent_tables lengths places buffers body) first_a n_a first_b n_b start end) answer.old }
+    ensures answer_value { answer.new ≡ ratio_numbers (ratio_report (was formats) (was schema) (lent_tables lengths places buffers body) first_a n_a first_b n_b start end) answer.old }
 {
     match aggregates::ratio(
         formats, schema, lengths, places, buffers, body, first_a, n_a, first_b, n_b, start, end,

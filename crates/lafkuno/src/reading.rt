@@ -36,7 +36,7 @@ pub extern "C" fn lafkuno_column_ground(
 // The words into the front of the room.
 pub fn copy_words(room: &mut [u64], words: &[u64])
     requires { length words.now ≤ length room.old }
-    ensures { left room ≡ splice 0 (was words) (was room) }
+    ensures { room.new ≡ splice 0 (was words) room.old }
 {
     let mut i = 0;
     while i < words.len() {
@@ -66,8 +66,8 @@ pub extern "C" fn lafkuno_open_column(
     n: u32,
     room: &mut [u64],
 ) -> u8
-    ensures value { result ≡ open_ground (was formats) (was schema) (tables_of (was lengths) (was places) (was buffers) (was body)) first n (was room) }
-    ensures room_value { left room ≡ open_tree (was formats) (was schema) (tables_of (was lengths) (was places) (was buffers) (was body)) first n (was room) }
+    ensures value { result ≡ open_ground (was formats) (was schema) (tables_of (was lengths) (was places) (was buffers) (was body)) first n room.old }
+    ensures room_value { room.new ≡ open_tree (was formats) (was schema) (tables_of (was lengths) (was places) (was buffers) (was body)) first n room.old }
 {
     let mut tree = [0u64; 256];
     let refusal = row_reader::column_reader::open_column(
@@ -195,8 +195,8 @@ pub extern "C" fn lafkuno_read_row(
     row: u64,
     answer: &mut [u64],
 ) -> u8
-    ensures value { result ≡ read_kind (was tree) (column (was lengths) (was places) (was buffers) (was body) first) row (was answer) }
-    ensures answer_value { left answer ≡ read_numbers (was tree) (column (was lengths) (was places) (was buffers) (was body) first) row (was answer) }
+    ensures value { result ≡ read_kind (was tree) (column (was lengths) (was places) (was buffers) (was body) first) row answer.old }
+    ensures answer_value { answer.new ≡ read_numbers (was tree) (column (was lengths) (was places) (was buffers) (was body) first) row answer.old }
 {
     let mut ids = [0u8; 8];
     let found = row_reader::row_at(tree, lengths, places, buffers, body, first, row, &mut ids);
@@ -228,8 +228,8 @@ pub extern "C" fn lafkuno_run_at(
     row: u64,
     answer: &mut [u64],
 ) -> u8
-    ensures value { result ≡ refusal (read_run (was formats) (was schema) (tables_of (was lengths) (was places) (was buffers) (was body)) first n row) (was answer) }
-    ensures answer_value { left answer ≡ numbers (read_run (was formats) (was schema) (tables_of (was lengths) (was places) (was buffers) (was body)) first n row) (was answer) }
+    ensures value { result ≡ refusal (read_run (was formats) (was schema) (tables_of (was lengths) (was places) (was buffers) (was body)) first n row) answer.old }
+    ensures answer_value { answer.new ≡ numbers (read_run (was formats) (was schema) (tables_of (was lengths) (was places) (was buffers) (was body)) first n row) answer.old }
 {
     runs::run_at(
         formats, schema, lengths, places, buffers, body, first, n, row, answer,
@@ -247,8 +247,8 @@ pub extern "C" fn lafkuno_read_run(
     row: u64,
     answer: &mut [u64],
 ) -> u8
-    ensures value { result ≡ refusal (run_at (was tree) (column (was lengths) (was places) [] (was body) first) row) (was answer) }
-    ensures answer_value { left answer ≡ numbers (run_at (was tree) (column (was lengths) (was places) [] (was body) first) row) (was answer) }
+    ensures value { result ≡ refusal (run_at (was tree) (column (was lengths) (was places) [] (was body) first) row) answer.old }
+    ensures answer_value { answer.new ≡ numbers (run_at (was tree) (column (was lengths) (was places) [] (was body) first) row) answer.old }
 {
     runs::run_of_opened(tree, lengths, places, body, first, row, answer)
 }

@@ -29,8 +29,8 @@ pub extern "C" fn lafkuno_same_row(
     row_b: u64,
     answer: &mut [u64],
 ) -> u8
-    ensures value { result ≡ same_ground (same_row (was formats) (was schema) (lent_tables lengths places buffers body) first_a n_a first_b n_b row_a row_b) (was answer) }
-    ensures answer_value { left answer ≡ same_numbers (same_row (was formats) (was schema) (lent_tables lengths places buffers body) first_a n_a first_b n_b row_a row_b) (was answer) }
+    ensures value { result ≡ same_ground (same_row (was formats) (was schema) (lent_tables lengths places buffers body) first_a n_a first_b n_b row_a row_b) answer.old }
+    ensures answer_value { answer.new ≡ same_numbers (same_row (was formats) (was schema) (lent_tables lengths places buffers body) first_a n_a first_b n_b row_a row_b) answer.old }
 {
     match row_pair::same_row(
         formats, schema, lengths, places, buffers, body, first_a, n_a, first_b, n_b, row_a, row_b,

@@ -28,7 +28,7 @@ pub extern "C" fn lafkuno_orders(
     room: &mut [u8],
     orders: &[u64],
 ) -> u32
-    ensures { Carries (trip_order (lent_all plan parts sources lengths places body) (was counters) (was room) (calls_of (was orders))) result (left counters) (left room) }
+    ensures { Carries (trip_order (lent_all plan parts sources lengths places body) counters.old room.old (calls_of (was orders))) result counters.new room.new }
 {
     answer_word(trip::orders(
         plan, parts, sources, lengths, places, body, counters, room, orders,
@@ -46,7 +46,7 @@ pub extern "C" fn lafkuno_measure_orders(
     counters: &mut [u64],
     orders: &[u64],
 ) -> u32
-    ensures { Asks (trip_measure (lent (was plan) [] (was sources) (was lengths) (was places) (was body)) (was counters) (calls_of (was orders))) result (left counters) }
+    ensures { Asks (trip_measure (lent (was plan) [] (was sources) (was lengths) (was places) (was body)) counters.old (calls_of (was orders))) result counters.new }
 {
     answer_word(trip::measure_orders(plan, sources, lengths, places, body, counters, orders))
 }

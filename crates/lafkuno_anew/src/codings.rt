@@ -25,7 +25,7 @@ pub extern "C" fn lafkuno_plan_encode(
     plan: &mut [u64],
     counters: &mut [u64],
 ) -> u8
-    ensures { Asks (encode_asked (was formats) (was schema) (lent_tables lengths places buffers body) first n target start end (was plan) (was counters)) result (left plan) (left counters) }
+    ensures { Asks (encode_asked (was formats) (was schema) (lent_tables lengths places buffers body) first n target start end plan.old counters.old) result plan.new counters.new }
 {
     encode::plan_encode(
         formats, schema, lengths, places, buffers, body, first, n, target, start, end, plan,
@@ -78,7 +78,7 @@ pub extern "C" fn lafkuno_plan_expand(
     plan: &mut [u64],
     counters: &mut [u64],
 ) -> u8
-    ensures { Asks (expand_asked (was formats) (was schema) (lent_tables lengths places buffers body) first n target start end (was plan) (was counters)) result (left plan) (left counters) }
+    ensures { Asks (expand_asked (was formats) (was schema) (lent_tables lengths places buffers body) first n target start end plan.old counters.old) result plan.new counters.new }
 {
     expand::plan_expand(
         formats, schema, lengths, places, buffers, body, first, n, target, start, end, plan,

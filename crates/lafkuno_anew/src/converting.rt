@@ -21,7 +21,7 @@ pub extern "C" fn lafkuno_plan_convert(
     plan: &mut [u64],
     counters: &mut [u64],
 ) -> u8
-    ensures { Asks (asked (was formats) (was schema) (lent_tables lengths places buffers body) first n target target_n (was plan) (was counters)) result (left plan) (left counters) }
+    ensures { Asks (asked (was formats) (was schema) (lent_tables lengths places buffers body) first n target target_n plan.old counters.old) result plan.new counters.new }
 {
     widths::plan_convert(
         formats, schema, lengths, places, buffers, body, first, n, target, target_n, plan, counters,

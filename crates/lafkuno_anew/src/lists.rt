@@ -25,7 +25,7 @@ pub extern "C" fn lafkuno_plan_list(
     plan: &mut [u64],
     counters: &mut [u64],
 ) -> u8
-    ensures { Asks (ask_list (was formats) (was schema) (lent_tables lengths places buffers body) first n target target_n (was plan) (was counters)) result (left plan) (left counters) }
+    ensures { Asks (ask_list (was formats) (was schema) (lent_tables lengths places buffers body) first n target target_n plan.old counters.old) result plan.new counters.new }
 {
     to_list::plan_list(
         formats, schema, lengths, places, buffers, body, first, n, target, target_n, plan, counters,
@@ -74,7 +74,7 @@ pub extern "C" fn lafkuno_plan_list_view(
     plan: &mut [u64],
     counters: &mut [u64],
 ) -> u8
-    ensures { Asks (ask_view (was formats) (was schema) (lent_tables lengths places buffers body) first n target target_n (was plan) (was counters)) result (left plan) (left counters) }
+    ensures { Asks (ask_view (was formats) (was schema) (lent_tables lengths places buffers body) first n target target_n plan.old counters.old) result plan.new counters.new }
 {
     to_view::plan_list_view(
         formats, schema, lengths, places, buffers, body, first, n, target, target_n, plan, counters,

@@ -19,7 +19,7 @@ pub extern "C" fn lafkuno_plan_reclaim(
     plan: &mut [u64],
     counters: &mut [u64],
 ) -> u8
-    ensures { Asks (reclaim_asked (was formats) (was schema) (tables_of (was lengths) (was places) (was buffers) (was body)) first n (was plan) (was counters)) result (left plan) (left counters) }
+    ensures { Asks (reclaim_asked (was formats) (was schema) (tables_of (was lengths) (was places) (was buffers) (was body)) first n plan.old counters.old) result plan.new counters.new }
 {
     reclaim::plan_reclaim(
         formats, schema, lengths, places, buffers, body, first, n, plan, counters,

@@ -1,6 +1,7 @@
 // Calls for C: which node stopped an order, the ground and five numbers that say where and why. Nothing else is written. They are a library of
 // their own, so that the compiler lays out orders as if these calls were not there.
 #![tactic(auto)]
+
 ghost use Rattle.std.specs.Prelude.{◌≡◌, List, ℕ};
 ghost use Rattle.clauses.specs.Slices.{was, left};
 ghost use Rattle.transform.specs.Answer.{lent};
@@ -12,7 +13,7 @@ use explain::stops::{Why, WhyListed};
 
 // The five numbers, where there is room for them.
 fn put_why(answer: &mut [u64], w: Why)
-    ensures { left answer ≡ why_answer w (was answer) }
+    ensures { answer.new ≡ why_answer w answer.old }
 {
     if answer.len() != 5 {
         return;
@@ -26,7 +27,7 @@ fn put_why(answer: &mut [u64], w: Why)
 
 // The five numbers, and the place of the order.
 fn put_listed(answer: &mut [u64], w: WhyListed)
-    ensures { left answer ≡ listed_answer w (was answer) }
+    ensures { answer.new ≡ listed_answer w answer.old }
 {
     if answer.len() != 6 {
         return;
@@ -56,7 +57,7 @@ pub extern "C" fn lafkuno_why_copy(
     answer: &mut [u64],
 ) -> u8
     ensures value { result ≡ (why_copy_order (lent (was plan) (was parts) (was sources) (was lengths) (was places) (was body)) room (was counters) source start end).refusal }
-    ensures answer_value { left answer ≡ why_answer (why_copy_order (lent (was plan) (was parts) (was sources) (was lengths) (was places) (was body)) room (was counters) source start end) (was answer) }
+    ensures answer_value { answer.new ≡ why_answer (why_copy_order (lent (was plan) (was parts) (was sources) (was lengths) (was places) (was body)) room (was counters) source start end) answer.old }
 {
     let w = explain::why_copy(
         plan,
@@ -87,7 +88,7 @@ pub extern "C" fn lafkuno_why_nulls(
     answer: &mut [u64],
 ) -> u8
     ensures value { (sources lengths places body : List ℕ) → result ≡ (why_null_order (lent (was plan) (was parts) sources lengths places body) room (was counters) n).refusal }
-    ensures answer_value { (sources lengths places body : List ℕ) → left answer ≡ why_answer (why_null_order (lent (was plan) (was parts) sources lengths places body) room (was counters) n) (was answer) }
+    ensures answer_value { (sources lengths places body : List ℕ) → answer.new ≡ why_answer (why_null_order (lent (was plan) (was parts) sources lengths places body) room (was counters) n) answer.old }
 {
     let w = explain::why_nulls(plan, parts, counters, room as usize, n);
     let refusal = w.refusal;
@@ -110,7 +111,7 @@ pub extern "C" fn lafkuno_why_orders(
     answer: &mut [u64],
 ) -> u8
     ensures value { result ≡ (why_trip (lent (was plan) (was parts) (was sources) (was lengths) (was places) (was body)) room (was counters) (calls_of (was orders))).why.refusal }
-    ensures answer_value { left answer ≡ listed_answer (why_trip (lent (was plan) (was parts) (was sources) (was lengths) (was places) (was body)) room (was counters) (calls_of (was orders))) (was answer) }
+    ensures answer_value { answer.new ≡ listed_answer (why_trip (lent (was plan) (was parts) (was sources) (was lengths) (was places) (was body)) room (was counters) (calls_of (was orders))) answer.old }
 {
     let w = explain::why_orders(
         plan,

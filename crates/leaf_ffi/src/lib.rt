@@ -1,6 +1,7 @@
 // The leaves as calls for a driver in another language, by which their speed is measured.
 // Each call tests its ranges; where one does not lie inside its slice, it writes nothing and answers REFUSED.
 #![tactic(auto)]
+
 ghost use Rattle.std.specs.Prelude.{◌≡◌, ◌+◌, ◌*◌, ◌<◌, ◌≤◌, length, take, drop, replicate, if◌then◌else◌};
 ghost use Rattle.clauses.specs.Slices.{was, left};
 ghost use Rattle.number.specs.Number.{splice};
@@ -72,8 +73,8 @@ pub extern "C" fn lafkuno_leaf_copy_bytes(
     from: usize,
     n: usize,
 ) -> usize
-    ensures room_value { left room ≡ (if inside_both (length (was room)) at (length (was body)) from 1 n then splice at (take n (drop from (was body))) (was room) else was room) }
-    ensures value { result ≡ (if inside_both (length (was room)) at (length (was body)) from 1 n then 0 else 18446744073709551615) }
+    ensures room_value { room.new ≡ (if inside_both (length room.old) at (length (was body)) from 1 n then splice at (take n (drop from (was body))) room.old else room.old) }
+    ensures value { result ≡ (if inside_both (length room.old) at (length (was body)) from 1 n then 0 else 18446744073709551615) }
 {
     if within_both(room.len(), at, body.len(), from, 1, n) {
         number::copy::copy_bytes(room, at, body, from, n);
@@ -84,8 +85,8 @@ pub extern "C" fn lafkuno_leaf_copy_bytes(
 
 #[unsafe(no_mangle)]
 pub extern "C" fn lafkuno_leaf_fill_zeros(room: &mut [u8], at: usize, n: usize) -> usize
-    ensures room_value { left room ≡ (if inside (length (was room)) at 1 n then splice at (replicate n 0) (was room) else was room) }
-    ensures value { result ≡ (if inside (length (was room)) at 1 n then 0 else 18446744073709551615) }
+    ensures room_value { room.new ≡ (if inside (length room.old) at 1 n then splice at (replicate n 0) room.old else room.old) }
+    ensures value { result ≡ (if inside (length room.old) at 1 n then 0 else 18446744073709551615) }
 {
     if within(room.len(), at, 1, n) {
         number::copy::fill_zeros(room, at, n);
@@ -103,8 +104,8 @@ pub extern "C" fn lafkuno_leaf_extend_offsets_i32(
     n: usize,
     last: u32,
 ) -> usize
-    ensures room_value { left room ≡ (if inside_offsets (length (was room)) at (length (was body)) from 4 n then splice at (moved_offsets 4 (was body) from last n) (was room) else was room) }
-    ensures value { result ≡ (if inside_offsets (length (was room)) at (length (was body)) from 4 n then 0 else 18446744073709551615) }
+    ensures room_value { room.new ≡ (if inside_offsets (length room.old) at (length (was body)) from 4 n then splice at (moved_offsets 4 (was body) from last n) room.old else room.old) }
+    ensures value { result ≡ (if inside_offsets (length room.old) at (length (was body)) from 4 n then 0 else 18446744073709551615) }
 {
     if within_offsets(room.len(), at, body.len(), from, 4, n) {
         utils::extend_offsets_i32(room, at, body, from, n, last);
@@ -122,8 +123,8 @@ pub extern "C" fn lafkuno_leaf_extend_offsets_i64(
     n: usize,
     last: u64,
 ) -> usize
-    ensures room_value { left room ≡ (if inside_offsets (length (was room)) at (length (was body)) from 8 n then splice at (moved_offsets 8 (was body) from last n) (was room) else was room) }
-    ensures value { result ≡ (if inside_offsets (length (was room)) at (length (was body)) from 8 n then 0 else 18446744073709551615) }
+    ensures room_value { room.new ≡ (if inside_offsets (length room.old) at (length (was body)) from 8 n then splice at (moved_offsets 8 (was body) from last n) room.old else room.old) }
+    ensures value { result ≡ (if inside_offsets (length room.old) at (length (was body)) from 8 n then 0 else 18446744073709551615) }
 {
     if within_offsets(room.len(), at, body.len(), from, 8, n) {
         utils::extend_offsets_i64(room, at, body, from, n, last);
@@ -141,8 +142,8 @@ pub extern "C" fn lafkuno_leaf_extend_with_offset_u8(
     n: usize,
     base: u8,
 ) -> usize
-    ensures room_value { left room ≡ (if inside_both (length (was room)) at (length (was body)) from 1 n then splice at (rebased 1 (was body) from base n) (was room) else was room) }
-    ensures value { result ≡ (if inside_both (length (was room)) at (length (was body)) from 1 n then 0 else 18446744073709551615) }
+    ensures room_value { room.new ≡ (if inside_both (length room.old) at (length (was body)) from 1 n then splice at (rebased 1 (was body) from base n) room.old else room.old) }
+    ensures value { result ≡ (if inside_both (length room.old) at (length (was body)) from 1 n then 0 else 18446744073709551615) }
 {
     if within_both(room.len(), at, body.len(), from, 1, n) {
         utils::primitive::extend_with_offset_u8(room, at, body, from, n, base);
@@ -160,8 +161,8 @@ pub extern "C" fn lafkuno_leaf_extend_with_offset_u16(
     n: usize,
     base: u16,
 ) -> usize
-    ensures room_value { left room ≡ (if inside_both (length (was room)) at (length (was body)) from 2 n then splice at (rebased 2 (was body) from base n) (was room) else was room) }
-    ensures value { result ≡ (if inside_both (length (was room)) at (length (was body)) from 2 n then 0 else 18446744073709551615) }
+    ensures room_value { room.new ≡ (if inside_both (length room.old) at (length (was body)) from 2 n then splice at (rebased 2 (was body) from base n) room.old else room.old) }
+    ensures value { result ≡ (if inside_both (length room.old) at (length (was body)) from 2 n then 0 else 18446744073709551615) }
 {
     if within_both(room.len(), at, body.len(), from, 2, n) {
         utils::primitive::extend_with_offset_u16(room, at, body, from, n, base);
@@ -179,8 +180,8 @@ pub extern "C" fn lafkuno_leaf_extend_with_offset_u32(
     n: usize,
     base: u32,
 ) -> usize
-    ensures room_value { left room ≡ (if inside_both (length (was room)) at (length (was body)) from 4 n then splice at (rebased 4 (was body) from base n) (was room) else was room) }
-    ensures value { result ≡ (if inside_both (length (was room)) at (length (was body)) from 4 n then 0 else 18446744073709551615) }
+    ensures room_value { room.new ≡ (if inside_both (length room.old) at (length (was body)) from 4 n then splice at (rebased 4 (was body) from base n) room.old else room.old) }
+    ensures value { result ≡ (if inside_both (length room.old) at (length (was body)) from 4 n then 0 else 18446744073709551615) }
 {
     if within_both(room.len(), at, body.len(), from, 4, n) {
         utils::primitive::extend_with_offset_u32(room, at, body, from, n, base);
@@ -198,8 +199,8 @@ pub extern "C" fn lafkuno_leaf_extend_views(
     n: usize,
     base: u32,
 ) -> usize
-    ensures room_value { left room ≡ (if inside_both (length (was room)) at (length (was body)) from 16 n then splice at (reviewed (was body) from base n) (was room) else was room) }
-    ensures value { result ≡ (if inside_both (length (was room)) at (length (was body)) from 16 n then 0 else 18446744073709551615) }
+    ensures room_value { room.new ≡ (if inside_both (length room.old) at (length (was body)) from 16 n then splice at (reviewed (was body) from base n) room.old else room.old) }
+    ensures value { result ≡ (if inside_both (length room.old) at (length (was body)) from 16 n then 0 else 18446744073709551615) }
 {
     if within_both(room.len(), at, body.len(), from, 16, n) {
         utils::byte_view::extend_views(room, at, body, from, n, base);
@@ -219,8 +220,8 @@ pub extern "C" fn lafkuno_leaf_copy_bits(
     a: usize,
     n: usize,
 ) -> usize
-    ensures room_value { left room ≡ (if inside_bits_both (length (was room)) at b (length (was body)) from a n then put_bits (8 * at + b) (bits_at (8 * from + a) n (was body)) (was room) else was room) }
-    ensures value { result ≡ (if inside_bits_both (length (was room)) at b (length (was body)) from a n then zeros (bits_at (8 * from + a) n (was body)) else 18446744073709551615) }
+    ensures room_value { room.new ≡ (if inside_bits_both (length room.old) at b (length (was body)) from a n then put_bits (8 * at + b) (bits_at (8 * from + a) n (was body)) room.old else room.old) }
+    ensures value { result ≡ (if inside_bits_both (length room.old) at b (length (was body)) from a n then zeros (bits_at (8 * from + a) n (was body)) else 18446744073709551615) }
 {
     if within_bits(room.len(), at, b, n) {
         if within_bits(body.len(), from, a, n) {

@@ -1,6 +1,6 @@
 -- What a function that walks says of the slices that it is lent. Assumes nothing.
 use Rattle.std.specs.Prelude.{Bool, List, [], ℕ}
-use Rattle.clauses.specs.Slices.{was, left, Slice}
+use Rattle.clauses.specs.Slices.{was, began, left, Slice, MutSlice}
 use Rattle.walk.specs.State.{Join}
 use Rattle.walk.specs.Log.{Out, Did}
 use Rattle.leaf_walk.specs.Join.{join}
@@ -22,5 +22,5 @@ abbrev pub AnySource : (plan parts : Slice) → (Join → Type 0) → Type 0
 AnySource plan parts P = (lengths places body : List ℕ) (first source : ℕ) → P (join (was plan) (was parts) lengths places body first source)
 
 -- the walk from the counters as they are lent: its answer g, and the counters and the room as they are left
-abbrev pub Walks : (plan parts : Slice) → Bool → (List ℕ → Out) → (counters room : Slice) → ℕ → Type 0
-Walks plan parts write walk counters room g = Did (was plan) (was parts) write (walk (was counters)) (was room) g (left counters) (left room)
+abbrev pub Walks : (plan parts : Slice) → Bool → (List ℕ → Out) → (counters room : MutSlice) → ℕ → Type 0
+Walks plan parts write walk counters room g = Did (was plan) (was parts) write (walk (began counters)) (began room) g (left counters) (left room)

@@ -2,6 +2,7 @@
 // The answer is 0 or the ground of refusal; a walk that only tries changes the counters alone.
 // What a function does not read of the order stands in its contract for all values.
 #![tactic(auto)]
+
 pub mod variable_size;
 
 ghost use Rattle.std.specs.Prelude.{◌≡◌, Bool, not, ◌&&◌, List, ℕ, ◌+◌, ◌*◌, ◌<◌, ◌≤◌, ◌^◌, eqb};
@@ -255,7 +256,7 @@ pub fn null_mask(
 // n nulls of a node that holds no validity are counted.
 pub fn count_nulls(plan: &[u64], counters: &mut [u64; plan_words::COUNTERS], i: usize, n: u64) -> u8
     requires { i < 32 }
-    ensures { (parts lengths places body room : List ℕ) (first source : ℕ) (write : Bool) → Did (was plan) parts write (count_nulls (join (was plan) parts lengths places body first source) i n (was counters)) room result (left counters) room }
+    ensures { (parts lengths places body room : List ℕ) (first source : ℕ) (write : Bool) → Did (was plan) parts write (count_nulls (join (was plan) parts lengths places body first source) i n counters.old) room result counters.new room }
 {
     if plan_words::keeps_of(plan, i) == 0 {
         return 0;

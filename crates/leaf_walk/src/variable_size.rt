@@ -97,7 +97,7 @@ fn put_extended(
 ) -> u8
     requires first_bound { (first < 2 ^ 32) × (i < 32) × (from + w * (n + 1) ≤ length body.now) }
     requires w_value { (w ≡ 4 → ⊥) → w ≡ 8 }
-    ensures { AnyLengths plan parts places body first (λ j. Walks plan parts write (put_extended j i w from n (extended w (was body) from n (bytes (was counters) i))) counters room result) }
+    ensures { AnyLengths plan parts places body first (λ j. Walks plan parts write (put_extended j i w from n (extended w (was body) from n (bytes counters.old i))) counters room result) }
 {
     let last = plan_words::bytes_of(counters, i);
     match try_offsets(body, from, w, n as usize, last) {
@@ -191,7 +191,7 @@ pub fn copy_offsets(
     requires first_bound { (first < 2 ^ 32) × (i + 1 < 32) × (slot + n < 2 ^ 63) }
     requires w_value { (w ≡ 4 → ⊥) → w ≡ 8 }
     ensures any_lengths { AnyLengths plan parts places body first (λ j. result ≡ tried_offsets j w i slot n (was counters)) }
-    ensures any_lengths_2 { AnyLengths plan parts places body first (λ j. left room ≡ apply_if (was plan) (was parts) write (offsets_log j w i slot n (was counters) result) (was room)) }
+    ensures any_lengths_2 { AnyLengths plan parts places body first (λ j. room.new ≡ apply_if (was plan) (was parts) write (offsets_log j w i slot n (was counters) result) room.old) }
 {
     let at = lent_tables::place(places, first + i, 3);
     if !crate::rows_in(body, at, w, slot, n + 1) {
@@ -236,7 +236,7 @@ pub fn null_list(
 ) -> u8
     requires i_bound { i < 32 }
     requires w_value { (w ≡ 4 → ⊥) → w ≡ 8 }
-    ensures { AnySource plan parts (λ j. (child : NullWalk) → Did (was plan) (was parts) write (null_list j child w i n (was counters)) (was room) result (was counters) (left room)) }
+    ensures { AnySource plan parts (λ j. (child : NullWalk) → Did (was plan) (was parts) write (null_list j child w i n (was counters)) room.old result (was counters) room.new) }
 {
     if 32 <= i + 1 {
         return 12;

@@ -1,6 +1,7 @@
 // The questions about room: what the opening and the orders come to in a room that is large enough, as counters, and the bytes that each part then holds.
 // No part is asked and nothing is written but the counters.
 #![tactic(auto)]
+
 ghost use Rattle.std.specs.Prelude.{◌≡◌, List, [], ℕ, ◌+◌, ◌*◌, ◌/◌, ◌<◌, min};
 ghost use Rattle.clauses.specs.Slices.{was, left};
 ghost use Rattle.walk.specs.State.{top};
@@ -24,7 +25,7 @@ pub fn measure_open(
     body: &[u8],
     counters: &mut [u64],
 ) -> u8
-    ensures { Measures (open_measure (lent (was plan) [] (was sources) (was lengths) (was places) (was body)) (was counters)) result (left counters) }
+    ensures { Measures (open_measure (lent (was plan) [] (was sources) (was lengths) (was places) (was body)) counters.old) result counters.new }
 {
     if counters.len() != plan_words::COUNTERS {
         return 14;
@@ -61,7 +62,7 @@ pub fn measure_extend(
     start: u64,
     end: u64,
 ) -> u8
-    ensures { Measures (copy_measure (was counters) (lent (was plan) [] (was sources) (was lengths) (was places) (was body)) source start end) result (left counters) }
+    ensures { Measures (copy_measure counters.old (lent (was plan) [] (was sources) (was lengths) (was places) (was body)) source start end) result counters.new }
 {
     if counters.len() != plan_words::COUNTERS {
         return 14;
@@ -105,7 +106,7 @@ pub fn measure_extend(
 
 // n nulls: 0 and the counters after them, or the ground of refusal. No source is read.
 pub fn measure_nulls(plan: &[u64], counters: &mut [u64], n: u64) -> u8
-    ensures { (sources lengths places body : List ℕ) → Measures (null_measure (was counters) (lent (was plan) [] sources lengths places body) n) result (left counters) }
+    ensures { (sources lengths places body : List ℕ) → Measures (null_measure counters.old (lent (was plan) [] sources lengths places body) n) result counters.new }
 {
     if counters.len() != plan_words::COUNTERS {
         return 14;

@@ -28,7 +28,7 @@ fn gap_begun(gap: u64) -> u64
 // n ends more of the run-end node i, of a copy.
 pub fn count_runs(counters: &mut [u64; plan_words::COUNTERS], i: usize, n: u64)
     requires { i + 2 < 32 }
-    ensures { left counters ≡ end_gap i (add_rows (suc i) n (was counters)) }
+    ensures { counters.new ≡ end_gap i (add_rows (suc i) n counters.old) }
 {
     plan_words::add_rows(counters, i + 1, n);
     let gap = plan_words::bytes_of(counters, i);
@@ -38,7 +38,7 @@ pub fn count_runs(counters: &mut [u64; plan_words::COUNTERS], i: usize, n: u64)
 // One end more, of an order of nulls.
 pub fn count_null_run(counters: &mut [u64; plan_words::COUNTERS], i: usize)
     requires { i + 2 < 32 }
-    ensures { left counters ≡ begin_gap i (add_rows (suc i) 1 (was counters)) }
+    ensures { counters.new ≡ begin_gap i (add_rows (suc i) 1 counters.old) }
 {
     plan_words::add_rows(counters, i + 1, 1);
     let gap = plan_words::bytes_of(counters, i);

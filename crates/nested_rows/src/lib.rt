@@ -1,6 +1,7 @@
 // What a walk does at a node with children beside their own walk: the numbers of a row, the ends of runs, ids and positions of nulls.
 // The answer is 0 or the ground of refusal; a walk that only tries changes the counters alone.
 #![tactic(auto)]
+
 mod gaps;
 pub mod lookups;
 pub mod node_data;
@@ -69,7 +70,7 @@ pub fn list_numbers(
 ) -> u8
     requires i_bound { i + 1 < 32 }
     requires w_value { (w ≡ 4 → ⊥) → w ≡ 8 }
-    ensures { Did (was plan) (was parts) write (list_numbers w i r size (was counters)) (was room) result (was counters) (left room) }
+    ensures { Did (was plan) (was parts) write (list_numbers w i r size (was counters)) room.old result (was counters) room.new }
 {
     let offset = plan_words::rows_of(counters, i + 1);
     if !sum_fits(w, offset, size) {
@@ -94,7 +95,7 @@ pub fn dense_numbers(
     id: u8,
 ) -> u8
     requires { (i < 32) × (k < 32) }
-    ensures { Did (was plan) (was parts) write (dense_numbers i r k id (was counters)) (was room) result (was counters) (left room) }
+    ensures { Did (was plan) (was parts) write (dense_numbers i r k id (was counters)) room.old result (was counters) room.new }
 {
     let position = plan_words::rows_of(counters, k);
     if 2147483648 <= position {
@@ -272,7 +273,7 @@ pub fn null_ids(
     n: u64,
 ) -> u8
     requires { (i < 32) × (h < 32) }
-    ensures { Did (was plan) (was parts) write (null_ids (was plan) i h n (was counters)) (was room) result (was counters) (left room) }
+    ensures { Did (was plan) (was parts) write (null_ids (was plan) i h n (was counters)) room.old result (was counters) room.new }
 {
     let o = plan_words::rows_of(counters, i);
     room_writes::put_same(
@@ -301,7 +302,7 @@ pub fn null_positions(
     n: u64,
 ) -> u8
     requires { (i < 32) × (h < 32) }
-    ensures { Did (was plan) (was parts) write (null_positions (was plan) i h n (was counters)) (was room) result (was counters) (left room) }
+    ensures { Did (was plan) (was parts) write (null_positions (was plan) i h n (was counters)) room.old result (was counters) room.new }
 {
     let position = plan_words::rows_of(counters, h);
     if 2147483648 < plan_words::grow(position, n) {
@@ -353,7 +354,7 @@ pub fn longer_end(
 ) -> u8
     requires i_bound { i + 2 < 32 }
     requires i_value { (bytes_of plan.now (suc i) ≡ 2 → ⊥) → (bytes_of plan.now (suc i) ≡ 4 → ⊥) → bytes_of plan.now (suc i) ≡ 8 }
-    ensures { Did (was plan) (was parts) write (longer_end (was plan) i n (was counters)) (was room) result (was counters) (left room) }
+    ensures { Did (was plan) (was parts) write (longer_end (was plan) i n (was counters)) room.old result (was counters) room.new }
 {
     let runs = plan_words::rows_of(counters, i + 1);
     if runs == 0 {

@@ -1,5 +1,6 @@
 // The plan of a join as the opening plans it, before any dictionary is joined: one function for each kind of word.
 #![tactic(auto)]
+
 pub mod dictionaries;
 mod fine;
 pub mod grounds;
@@ -23,7 +24,7 @@ use walk::plan_words;
 
 // The words of the type tree, and zeros behind them.
 fn write_tree(tree: &[u64; 256], plan: &mut [u64; plan_words::WORDS])
-    ensures { left plan ≡ with_tree (was tree) }
+    ensures { plan.new ≡ with_tree (was tree) }
 {
     *plan = [0u64; plan_words::WORDS];
     let mut q = 0;
@@ -112,7 +113,7 @@ fn write_keeps(
     plan: &mut [u64; plan_words::WORDS],
 )
     requires { (m ≤ 16) × (n ≤ 32) × ((s i : ℕ) → s < m → i < n → Countable (tables lengths.now places.now body.now) (first_of sources.now s + i)) }
-    ensures { left plan ≡ with_keeps (tables (was lengths) (was places) (was body)) (was sources) m keep n (was plan) }
+    ensures { plan.new ≡ with_keeps (tables (was lengths) (was places) (was body)) (was sources) m keep n plan.old }
 {
     let mut i = 0;
     while i < n {
@@ -166,7 +167,7 @@ fn write_joined(
     plan: &mut [u64; plan_words::WORDS],
 )
     requires { (m ≤ 16) × (n ≤ 32) }
-    ensures { left plan ≡ with_joined (tables (was lengths) (was places) (was body)) (was sources) m n (was plan) }
+    ensures { plan.new ≡ with_joined (tables (was lengths) (was places) (was body)) (was sources) m n plan.old }
 {
     let mut i = 0;
     while i < n {
@@ -240,7 +241,7 @@ fn write_bases(
     plan: &mut [u64; plan_words::WORDS],
 )
     requires { m ≤ 16 }
-    ensures { left plan ≡ with_bases (tables (was lengths) (was places) (was body)) (was sources) m (was plan) }
+    ensures { plan.new ≡ with_bases (tables (was lengths) (was places) (was body)) (was sources) m plan.old }
 {
     let mut q = 0;
     while q < 32 * m {
@@ -263,7 +264,7 @@ fn write_bases(
 // The part of the first buffer of each of the first n nodes.
 pub fn write_parts(n: usize, plan: &mut [u64; plan_words::WORDS])
     requires { n ≤ 32 }
-    ensures { left plan ≡ with_parts n (was plan) }
+    ensures { plan.new ≡ with_parts n plan.old }
 {
     let mut i = 0;
     while i < n {
@@ -282,7 +283,7 @@ pub fn write_type(
     plan: &mut [u64; plan_words::WORDS],
 )
     requires { (first < 4294967296) × (n < 4294967296) }
-    ensures { left plan ≡ with_counts m n (with_tree (planted (was formats) (was schema) first n)) }
+    ensures { plan.new ≡ with_counts m n (with_tree (planted (was formats) (was schema) first n)) }
 {
     let mut tree = [0u64; 256];
     node_words::plant(formats, schema, first, n, &mut tree);
@@ -303,7 +304,7 @@ fn lay_out(
     plan: &mut [u64; plan_words::WORDS],
 )
     requires { Plannable (tables lengths.now places.now body.now) sources.now }
-    ensures { left plan ≡ laid_out (was formats) (was schema) (tables (was lengths) (was places) (was body)) (was sources) keep }
+    ensures { plan.new ≡ laid_out (was formats) (was schema) (tables (was lengths) (was places) (was body)) (was sources) keep }
 {
     let m = sources.len() / 2;
     let first = lent_tables::at_u32(sources, 0) as usize;
@@ -339,7 +340,7 @@ pub fn plan(
     plan: &mut [u64; plan_words::WORDS],
 )
     requires { Plannable (tables lengths.now places.now body.now) sources.now }
-    ensures { left plan ≡ planned (was formats) (was schema) (tables (was lengths) (was places) (was body)) (was sources) keep gaps }
+    ensures { plan.new ≡ planned (was formats) (was schema) (tables (was lengths) (was places) (was body)) (was sources) keep gaps }
 {
     lay_out(sources, formats, schema, lengths, places, body, keep, plan);
     plan[plan_words::GAPS] = choice_word(gaps);

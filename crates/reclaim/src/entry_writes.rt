@@ -16,7 +16,7 @@ fn write_each(
     count: usize,
 )
     requires { KeyWidth w × (count ≤ 512) × (from + w * count ≤ length body.now) × (to + length (chosen body.now from w (risen ranks.now) count) ≤ length room.old) }
-    ensures { left room ≡ splice to (chosen (was body) from w (risen (was ranks)) count) (was room) }
+    ensures { room.new ≡ splice to (chosen (was body) from w (risen (was ranks)) count) room.old }
 {
     let mut o = to;
     let mut j: usize = 0;
@@ -41,7 +41,7 @@ pub fn write_used(
     count: usize,
 )
     requires { KeyWidth w × (count ≤ 512) × (from + w * count ≤ length body.now) × (to + length (chosen body.now from w (risen ranks.now) count) ≤ length room.old) }
-    ensures { left room ≡ splice to (chosen (was body) from w (risen (was ranks)) count) (was room) }
+    ensures { room.new ≡ splice to (chosen (was body) from w (risen (was ranks)) count) room.old }
 {
     match w {
         1 => write_each(room, to, body, from, 1, ranks, count),

@@ -1,5 +1,6 @@
 // Reclaiming the unused entries of a dictionary column: the question before any room is lent, and the call. The result is finished as a join is.
 #![tactic(auto)]
+
 mod entry_copies;
 pub mod entry_writes;
 mod plain;
@@ -94,7 +95,7 @@ pub fn plan_reclaim(
     plan: &mut [u64],
     counters: &mut [u64],
 ) -> u8
-    ensures { Asks (reclaim_asked (was formats) (was schema) (tables_of (was lengths) (was places) (was buffers) (was body)) first n (was plan) (was counters)) result (left plan) (left counters) }
+    ensures { Asks (reclaim_asked (was formats) (was schema) (tables_of (was lengths) (was places) (was buffers) (was body)) first n plan.old counters.old) result plan.new counters.new }
 {
     let g = ground_of(formats, schema, lengths, places, buffers, body, first, n);
     if g != 0 {
@@ -146,7 +147,7 @@ fn make(
 ) -> u8
     requires plan_len { (length plan.old ≡ 872) × (length counters.old ≡ 96) × (length draft.now ≡ 872) }
     requires fact { let j = join draft.now [] lengths.now places.now body.now first 0 in (keys_in j ≡ true → Head (keys_of j) (length_of j 1) head.now) }
-    ensures { (left plan ≡ was draft) × Begins draft parts (reclaim_walk_of (lent_join draft parts lengths places body first 0)) counters room result }
+    ensures { (plan.new ≡ was draft) × Begins draft parts (reclaim_walk_of (lent_join draft parts lengths places body first 0)) counters room result }
 {
     let mut tally = [0u64; plan_words::COUNTERS];
     let g = crate::reclaim_walk::reclaim_walk(

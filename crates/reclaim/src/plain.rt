@@ -66,7 +66,7 @@ fn write_entries(
     requires first_bound { (first < 2 ^ 32) × (count ≤ 512) × Plain (alone plan.now lengths.now places.now body.now first) base count }
     requires count_value { let j = alone plan.now lengths.now places.now body.now first in length (chosen_of j base ranks.now count) ≡ bytes_of plan.now 1 * n }
     ensures stand { result ≡ true → Stand write room (behind (was plan) (was parts) have) (chosen_of (lent_alone plan lengths places body first) base (was ranks) count) (bytes_of (was plan) 1 * n) }
-    ensures room_value { result ≡ false → left room ≡ was room }
+    ensures room_value { result ≡ false → room.new ≡ room.old }
 {
     if !write {
         return true;
@@ -101,7 +101,7 @@ fn copied(counters: [u64; plan_words::COUNTERS]) -> [u64; plan_words::COUNTERS]
 
 // n entries more, if there is one.
 fn count_entries(counters: &mut [u64; plan_words::COUNTERS], n: u64)
-    ensures { left counters ≡ cond (eqb n 0) (was counters) (add_rows 1 n (was counters)) }
+    ensures { counters.new ≡ cond (eqb n 0) counters.old (add_rows 1 n counters.old) }
 {
     if n == 0 {
         return;
@@ -128,7 +128,7 @@ pub fn copy_plain(
     requires first_bound { (first < 2 ^ 32) × (count ≤ 512) × (base + count < 2 ^ 64) }
     requires by_index { (j : ℕ) → j ≤ count → get_or ranks.now j 0 ≡ rank (keys_of (alone plan.now lengths.now places.now body.now first)) (base + j) }
     ensures walks { result ≡ true → Walks plan parts write (copy_runs (lent_join plan parts lengths places body first 0) count base count) counters room 0 }
-    ensures counters_value { result ≡ false → (left counters ≡ was counters) × (left room ≡ was room) }
+    ensures counters_value { result ≡ false → (counters.new ≡ counters.old) × (room.new ≡ room.old) }
 {
     if !is_plain(plan, lengths, places, body, first, base, count) {
         return false;

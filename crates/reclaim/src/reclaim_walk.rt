@@ -74,7 +74,7 @@ fn write_keys(
     requires first_bound { (first < 2 ^ 32) × (keys_in (alone plan.now lengths.now places.now body.now first) ≡ true) }
     requires head { Head (keys_of (alone plan.now lengths.now places.now body.now first)) (length_of (alone plan.now lengths.now places.now body.now first) 1) head.now }
     requires first_in_bounds { to + bytes_of plan.now 0 * length_of (alone plan.now lengths.now places.now body.now first) 0 ≤ length room.old }
-    ensures { let j = lent_alone plan lengths places body first in left room ≡ splice to (new_keys (keys_of j) (length_of j 1)) (was room) }
+    ensures { let j = lent_alone plan lengths places body first in room.new ≡ splice to (new_keys (keys_of j) (length_of j 1)) room.old }
 {
     let w = lookups::width_at(plan, 0);
     let at = lent_tables::place(places, first, 3);
@@ -100,7 +100,7 @@ fn put_keys(
 )
     requires first_bound { (first < 2 ^ 32) × (keys_in (alone plan.now lengths.now places.now body.now first) ≡ true) }
     requires head { Head (keys_of (alone plan.now lengths.now places.now body.now first)) (length_of (alone plan.now lengths.now places.now body.now first) 1) head.now }
-    ensures { let j = lent_alone plan lengths places body first in left room ≡ apply_if (was plan) (was parts) write (put 0 1 0 (new_keys (keys_of j) (length_of j 1)) ∷ []) (was room) }
+    ensures { let j = lent_alone plan lengths places body first in room.new ≡ apply_if (was plan) (was parts) write (put 0 1 0 (new_keys (keys_of j) (length_of j 1)) ∷ []) room.old }
 {
     let w = lookups::width_at(plan, 0);
     let n = lent_tables::length_of(lengths, first);

@@ -122,7 +122,7 @@ pub fn ranks_of(
 pub fn write_number(room: &mut [u8], at: usize, w: u64, v: u64)
     requires w_in_bounds { at + w ≤ length room.old }
     requires key_width { KeyWidth w }
-    ensures { left room ≡ splice at (encode w v) (was room) }
+    ensures { room.new ≡ splice at (encode w v) room.old }
 {
     match w {
         1 => number::write_u8(room, at, (v % 256) as u8),
@@ -136,7 +136,7 @@ pub fn write_number(room: &mut [u8], at: usize, w: u64, v: u64)
 fn put_rank(room: &mut [u8], to: usize, w: u64, r: u64, ranks: &[u64; 513], s: usize)
     requires r_in_bounds { (to + w * (r + 1) ≤ length room.old) × (s ≤ 512) }
     requires key_width { KeyWidth w }
-    ensures { left room ≡ cond (ltb s 512) (splice (to + w * r) (encode w (get_or (was ranks) s 0)) (was room)) (was room) }
+    ensures { room.new ≡ cond (ltb s 512) (splice (to + w * r) (encode w (get_or (was ranks) s 0)) room.old) room.old }
 {
     if s < 512 {
         write_number(room, to + (w * r) as usize, w, ranks[s]);
@@ -284,7 +284,7 @@ pub fn write_keys(
 )
     requires within { Within (keys body.now w at masked mask off n) × (to + w * n ≤ length room.old) × (entries < 2 ^ 63) }
     requires head { Head (keys body.now w at masked mask off n) entries head.now }
-    ensures { left room ≡ splice to (new_keys (keys (was body) w at masked mask off n) entries) (was room) }
+    ensures { room.new ≡ splice to (new_keys (keys (was body) w at masked mask off n) entries) room.old }
 {
     number::copy::fill_zeros(room, to, (w * n) as usize);
     if entries <= BLOCK {

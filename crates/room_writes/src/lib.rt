@@ -1,5 +1,6 @@
 // The writes of a walk: each asks where it goes, and is left out where the walk only tries and where it would leave the room.
 #![tactic(auto)]
+
 ghost use Rattle.std.specs.Prelude.{◌≡◌, [], ◌∷◌, ◌+◌, ◌*◌, ◌<◌, ◌≤◌, length, take, drop, replicate};
 ghost use Rattle.number.specs.Number.{splice, encode};
 ghost use Rattle.utils.specs.byte_view.View.{reviewed};

@@ -26,7 +26,7 @@ pub fn open_column(
     tree: &mut [u64; 256],
 ) -> u8
     ensures value { result ≡ column_ground (was formats) (was schema) (tables_of (was lengths) (was places) (was buffers) (was body)) first n }
-    ensures tree_value { left tree ≡ opened_tree (was formats) (was schema) (tables_of (was lengths) (was places) (was buffers) (was body)) first n (was tree) }
+    ensures tree_value { tree.new ≡ opened_tree (was formats) (was schema) (tables_of (was lengths) (was places) (was buffers) (was body)) first n tree.old }
 {
     let refusal = columns::column_ground(formats, schema, lengths, places, buffers, body, first, n);
     if refusal == 0 {
@@ -56,7 +56,7 @@ pub fn read_row(
     ids: &mut [u8; 8],
 ) -> RowAnswer
     ensures fact { let w = read_row (was formats) (was schema) (tables_of (was lengths) (was places) (was buffers) (was body)) first n row in (result.read ≡ w.read) × (result.ids ≡ length w.ids) }
-    ensures ids_value { left ids ≡ splice 0 (read_row (was formats) (was schema) (tables_of (was lengths) (was places) (was buffers) (was body)) first n row).ids (was ids) }
+    ensures ids_value { ids.new ≡ splice 0 (read_row (was formats) (was schema) (tables_of (was lengths) (was places) (was buffers) (was body)) first n row).ids ids.old }
 {
     let mut tree = [0u64; 256];
     let refusal = open_column(

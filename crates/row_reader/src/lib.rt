@@ -1,5 +1,6 @@
 // One row of a lent column, read from the top of the tree downward, at most eight levels.
 #![tactic(auto)]
+
 pub mod column_reader;
 pub mod row_pair;
 pub mod runs;
@@ -300,7 +301,7 @@ pub fn row_at(
     ids: &mut [u8; 8],
 ) -> RowAnswer
     ensures fact { let c = column (was lengths) (was places) (was buffers) (was body) first in (result.read ≡ (row_at (was tree) c row).read) × (result.ids ≡ length (row_at (was tree) c row).ids) }
-    ensures ids_value { left ids ≡ splice 0 (row_at (was tree) (column (was lengths) (was places) (was buffers) (was body) first) row).ids (was ids) }
+    ensures ids_value { ids.new ≡ splice 0 (row_at (was tree) (column (was lengths) (was places) (was buffers) (was body) first) row).ids ids.old }
 {
     if entries::length_at(lengths, first, 0) <= row {
         return RowAnswer {

@@ -45,8 +45,8 @@ pub fn read_run(
 // The ground, then 14 where the answer has not 2 numbers, or 0. They are the run and the rows left; a ground leaves them as they
 // were.
 fn put_run(found: RowRun, answer: &mut [u64]) -> u8
-    ensures value { result ≡ refusal found (was answer) }
-    ensures answer_value { left answer ≡ numbers found (was answer) }
+    ensures value { result ≡ refusal found answer.old }
+    ensures answer_value { answer.new ≡ numbers found answer.old }
 {
     match found {
         RowRun::Run { run, left } => {
@@ -74,8 +74,8 @@ pub fn run_at(
     row: u64,
     answer: &mut [u64],
 ) -> u8
-    ensures value { result ≡ refusal (read_run (was formats) (was schema) (tables_of (was lengths) (was places) (was buffers) (was body)) first n row) (was answer) }
-    ensures answer_value { left answer ≡ numbers (read_run (was formats) (was schema) (tables_of (was lengths) (was places) (was buffers) (was body)) first n row) (was answer) }
+    ensures value { result ≡ refusal (read_run (was formats) (was schema) (tables_of (was lengths) (was places) (was buffers) (was body)) first n row) answer.old }
+    ensures answer_value { answer.new ≡ numbers (read_run (was formats) (was schema) (tables_of (was lengths) (was places) (was buffers) (was body)) first n row) answer.old }
 {
     let found = read_run(
         formats,
@@ -101,8 +101,8 @@ pub fn run_of_opened(
     row: u64,
     answer: &mut [u64],
 ) -> u8
-    ensures value { result ≡ refusal (run_at (was tree) (column (was lengths) (was places) [] (was body) first) row) (was answer) }
-    ensures answer_value { left answer ≡ numbers (run_at (was tree) (column (was lengths) (was places) [] (was body) first) row) (was answer) }
+    ensures value { result ≡ refusal (run_at (was tree) (column (was lengths) (was places) [] (was body) first) row) answer.old }
+    ensures answer_value { answer.new ≡ numbers (run_at (was tree) (column (was lengths) (was places) [] (was body) first) row) answer.old }
 {
     let found = crate::run_at(tree, lengths, places, body, first, ColumnRow(row));
     put_run(found, answer)

@@ -1,5 +1,5 @@
 -- The rows of a body are what the model's test of a source asks of its buffers, where each buffer is a part of the body. Assumes nothing.
-use Rattle.std.proofs.Common.{◌≡◌, ℕ, zero, suc, ◌+◌, ◌*◌, ◌<◌, ◌≤◌, Bool, true, false, ◌&&◌, ltb, leb, List, [], ◌∷◌, length, take, drop, refl, ap, ◌∙◌, ap₂, add_assoc, add-suc, mul_comm, add-mul, add-one, arith, length-drop, length-take, drop-drop, leb-true}
+use Rattle.std.proofs.Common.{subst, sym, ◌≡◌, ℕ, zero, suc, ◌+◌, ◌*◌, ◌<◌, ◌≤◌, Bool, true, false, ◌&&◌, ltb, leb, List, [], ◌∷◌, length, take, drop, refl, ap, ◌∙◌, ap₂, add_assoc, add-suc, mul_comm, add-mul, add-one, arith, length-drop, length-take, drop-drop, leb-true}
 use Rattle.number.specs.Number.{number, entry}
 use Rattle.columnar.specs.Types.{half}
 use Rattle.columnar.specs.Array.{Array, item, ok}
@@ -78,10 +78,13 @@ module _ (w : ℕ) (s : List ℕ) (start size : ℕ) (inside : start + size ≤ 
       → offsets_to w os most off n
       ≡ leb ((off + n + 1) * w) size && offsets_rows w s (start + w * off) n && leb (entry w s (start + w * off) n) most
   offsets_test_lem os most e off n =
-      rw (e, length_part w s start size inside)
+      subst
+      (λ o. offsets_to w o most off n ≡ leb ((off + n + 1) * w) size && offsets_rows w s (start + w * off) n && leb (entry w s (start + w * off) n) most)
+      (sym e)
+      (rw (length_part w s start size inside)
       (behind (leb ((off + n + 1) * w) size) (positive w (take size (drop start s)) off n) (rising w (take size (drop start s)) off n) (leb (item w (take size (drop start s)) (off + n)) most)
       (λ t. offsets_rows_lem off n (leb-true _ _ t))
-      (λ t. rw (offset_entry off n (leb-true _ _ t) n (omega arith))))
+      (λ t. rw (offset_entry off n (leb-true _ _ t) n (omega arith)))))
 
   -- ---- run ends
 

@@ -1,6 +1,7 @@
 // The rules that hold of every row of a source: offsets, list-views and run ends, each in one pass over the rows.
 // Each function answers whether n rows obey, whatever they hold. `at` is a byte's place, with the array's offset already in it.
 #![tactic(auto)]
+
 pub mod slots;
 
 ghost use Rattle.std.specs.Prelude.{◌≡◌, ◌+◌, ◌*◌, ◌^◌, ◌<◌, ◌≤◌, min, length, nat_lt};

@@ -1,6 +1,7 @@
 // What one slot of a lent node reads as, by the node's kind: a number, bytes, or the place of a list's rows. The node's own validity is not
 // looked at; that of a dictionary's values is.
 #![tactic(auto)]
+
 pub mod leaf_row;
 pub mod run;
 pub mod view;

@@ -1,6 +1,7 @@
 // Whether a walk stays in a plan: its nodes are trees one in the other, and those that a walk comes to have parts. Every order asks this of
 // the plan that it is lent; an opening writes no other.
 #![tactic(auto)]
+
 pub mod trying;
 
 ghost use Rattle.std.specs.Prelude.{◌≡◌, ◌&&◌, ◌≤◌, ◌<◌, leb};

@@ -1,5 +1,6 @@
 // The rules of one source (ground 12; docs/FORMAT.md), node by node.
 #![tactic(auto)]
+
 pub mod kinds;
 pub mod nodes;
 

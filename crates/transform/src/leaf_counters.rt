@@ -10,7 +10,7 @@ use walk::plan_words;
 // A counter n higher; it stays at the largest number.
 pub fn add_to(counters: &mut [u64], k: usize, n: u64)
     requires { k < length counters.old }
-    ensures { left counters ≡ set (was counters) k (grown (get_or (was counters) k 0) n) }
+    ensures { counters.new ≡ set counters.old k (grown (get_or counters.old k 0) n) }
 {
     counters[k] = plan_words::grow(counters[k], n);
 }
@@ -26,8 +26,8 @@ pub fn room_ground(
     b: u64,
 ) -> u8
     requires { (length counters.old ≡ 96) × (i < 32) }
-    ensures value { result ≡ cond (parts_within (was plan) (was parts) m) (cond (parts_hold (was plan) (set_bytes i b (add_rows i n (was counters))) (was parts)) 0 13) 14 }
-    ensures counters_value { left counters ≡ was counters }
+    ensures value { result ≡ cond (parts_within (was plan) (was parts) m) (cond (parts_hold (was plan) (set_bytes i b (add_rows i n counters.old)) (was parts)) 0 13) 14 }
+    ensures counters_value { counters.new ≡ counters.old }
 {
     let rows = counters[3 * i];
     let old = counters[3 * i + 2];

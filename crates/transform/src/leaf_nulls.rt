@@ -22,7 +22,7 @@ fn put_null_entries(
     n: u64,
 )
     requires { (i < 32) × (1 ≤ code_of plan.now i) × (code_of plan.now i < 17) }
-    ensures { (child : NullWalk) → Did (was plan) (was parts) true (null_data (null_join plan parts) child (code_of (was plan) i) i n (was counters)) (was room) 0 (was counters) (left room) }
+    ensures { (child : NullWalk) → Did (was plan) (was parts) true (null_data (null_join plan parts) child (code_of (was plan) i) i n (was counters)) room.old 0 (was counters) room.new }
 {
     let code = plan_words::code_of(plan, i);
     let w = plan::parts::entry_size(code) as u64;

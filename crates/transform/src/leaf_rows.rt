@@ -40,7 +40,7 @@ fn put_entries(
     requires first_bound { (first < 2 ^ 32) × (source < 2 ^ 32) × (i < 32) × (slot + n < 2 ^ 63) }
     requires bound { (1 ≤ code_of plan.now i) × (code_of plan.now i < 17) × (is_string (code_of plan.now i) ≡ false) × (w ≡ entry_size (code_of plan.now i)) }
     requires n_in_bounds { place (join [] [] [] places.now [] first 0) i 3 + w * (slot + n) ≤ length body.now }
-    ensures { (lengths : List ℕ) (child : Walk) → Did (was plan) (was parts) true (copy_data (join (was plan) (was parts) lengths (was places) (was body) first source) child (code_of (was plan) i) i slot n (was counters)) (was room) 0 (was counters) (left room) }
+    ensures { (lengths : List ℕ) (child : Walk) → Did (was plan) (was parts) true (copy_data (join (was plan) (was parts) lengths (was places) (was body) first source) child (code_of (was plan) i) i slot n (was counters)) room.old 0 (was counters) room.new }
 {
     let from = lent_tables::place(places, first + i, 3) + w * slot;
     let o = plan_words::scale(lent_tables::at_u64(counters, 3 * i), w);

@@ -3,6 +3,7 @@
 // (`list_rows`, `list_nulls`) and of a sparse union of numbers (`sparse_rows`, `sparse_nulls`) no walk is tried; a type that is one node of numbers goes a shorter way still (`numbers`, `number_nulls`).
 // Follows `try_extend` and `try_extend_nulls` of arrow-data 60.1.0 src/transform/mod.rs, Apache-2.0; see NOTICE.
 #![tactic(auto)]
+
 mod leaf_bits;
 mod leaf_counters;
 mod leaf_nulls;
@@ -58,7 +59,7 @@ pub fn copied(counters: [u64; plan_words::COUNTERS]) -> [u64; plan_words::COUNTE
 // The counters as the array has them.
 pub fn store(counters: &mut [u64], tally: &[u64; plan_words::COUNTERS])
     requires { (length counters.old ≡ 96) × (length tally.now ≡ 96) }
-    ensures { left counters ≡ was tally }
+    ensures { counters.new ≡ was tally }
 {
     let mut i = 0;
     while i < plan_words::COUNTERS {
@@ -165,7 +166,7 @@ pub fn try_extend(
     start: u64,
     end: u64,
 ) -> u8
-    ensures { Answers (copy_order (lent (was plan) (was parts) (was sources) (was lengths) (was places) (was body)) (was counters) (was room) source start end) result (left counters) (left room) }
+    ensures { Answers (copy_order (lent (was plan) (was parts) (was sources) (was lengths) (was places) (was body)) counters.old room.old source start end) result counters.new room.new }
 {
     if counters.len() != plan_words::COUNTERS {
         return 14;
@@ -248,7 +249,7 @@ pub fn try_extend_nulls(
     room: &mut [u8],
     n: u64,
 ) -> u8
-    ensures { (sources lengths places body : List ℕ) → Answers (null_order (lent (was plan) (was parts) sources lengths places body) (was counters) (was room) n) result (left counters) (left room) }
+    ensures { (sources lengths places body : List ℕ) → Answers (null_order (lent (was plan) (was parts) sources lengths places body) counters.old room.old n) result counters.new room.new }
 {
     if counters.len() != plan_words::COUNTERS {
         return 14;

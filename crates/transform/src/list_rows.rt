@@ -109,7 +109,7 @@ fn put_rows(
     requires counters_len { (length counters.old ≡ 96) × (first < 2 ^ 32) × (list_of_numbers plan.now ≡ true) × (n ≡ 0 → ⊥) }
     requires rows_in_lem { RowsIn (join plan.now [] [] places.now body.now first 0) w from slot n }
     requires items_in { ItemsIn (join plan.now [] [] places.now body.now first 0) v inner k }
-    ensures { (lengths : List ℕ) (source start last lead : ℕ) → let j = join (was plan) (was parts) lengths (was places) (was body) first source in slot ≡ slot_of j 0 start n → Reaches j w from n (was counters) inner k last lead → Walks plan parts true (copy_walk j 8 0 start n) counters room 0 }
+    ensures { (lengths : List ℕ) (source start last lead : ℕ) → let j = join (was plan) (was parts) lengths (was places) (was body) first source in slot ≡ slot_of j 0 start n → Reaches j w from n counters.old inner k last lead → Walks plan parts true (copy_walk j 8 0 start n) counters room 0 }
 {
     let old = lent_tables::at_u64(counters, 3);
     leaf_bits::put_bits(plan, parts, places, body, counters, room, first, 0, slot, n);
@@ -145,7 +145,7 @@ fn write_rows(
     requires counters_len { (length counters.old ≡ 96) × (first < 2 ^ 32) × (list_of_numbers plan.now ≡ true) × (n ≡ 0 → ⊥) }
     requires rows_in_lem { RowsIn (join plan.now [] [] places.now body.now first 0) w from slot n }
     requires items_in { ItemsIn (join plan.now [] [] places.now body.now first 0) v inner k }
-    ensures { (sources lengths : List ℕ) (source start last lead : ℕ) → let j = join (was plan) (was parts) lengths (was places) (was body) first source in slot ≡ slot_of j 0 start n → Reaches j w from n (was counters) inner k last lead → Settles (lent (was plan) (was parts) sources lengths (was places) (was body)) (copy_walk j 8 0 start n) counters room result }
+    ensures { (sources lengths : List ℕ) (source start last lead : ℕ) → let j = join (was plan) (was parts) lengths (was places) (was body) first source in slot ≡ slot_of j 0 start n → Reaches j w from n counters.old inner k last lead → Settles (lent (was plan) (was parts) sources lengths (was places) (was body)) (copy_walk j 8 0 start n) counters room result }
 {
     let r = plan_words::grow(lent_tables::at_u64(counters, 0), n);
     let items = plan_words::grow(lent_tables::at_u64(counters, 3), k);

@@ -17,7 +17,7 @@ use walk::plan_words;
 // The zeros of n nulls, where they lie in the room.
 fn put_zeros(plan: &[u64], parts: &[u64], counters: &[u64], room: &mut [u8], w: u64, n: u64)
     requires { (is_fixed (code_of plan.now 0) ≡ true) × (w ≡ entry_size (code_of plan.now 0)) × (start_of plan.now parts.now 0 1 + rows counters.now 0 * w + w * n ≤ length room.old) }
-    ensures { (child : NullWalk) → Did (was plan) (was parts) true (null_data (null_join plan parts) child (code_of (was plan) 0) 0 n (was counters)) (was room) 0 (was counters) (left room) }
+    ensures { (child : NullWalk) → Did (was plan) (was parts) true (null_data (null_join plan parts) child (code_of (was plan) 0) 0 n (was counters)) room.old 0 (was counters) room.new }
 {
     let start = lent_tables::at_u64(parts, 2 * plan_words::part_of(plan, 0));
     let o = plan_words::scale(lent_tables::at_u64(counters, 0), w);

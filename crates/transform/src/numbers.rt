@@ -178,7 +178,7 @@ fn put_bytes(
     n: u64,
 )
     requires { (i < 32) × (from + n ≤ length body.now) × (start_of plan.now parts.now i 1 + o + n ≤ length room.old) }
-    ensures { left room ≡ apply_if (was plan) (was parts) true (put i 1 o (take n (drop from (was body))) ∷ []) (was room) }
+    ensures { room.new ≡ apply_if (was plan) (was parts) true (put i 1 o (take n (drop from (was body))) ∷ []) room.old }
 {
     let start = lent_tables::at_u64(parts, 2 * plan_words::part_of(plan, i));
     number::copy::copy_bytes(room, (start + o) as usize, body, from, n as usize);
@@ -199,7 +199,7 @@ fn put_numbers(
 )
     requires i_bound { (i < 32) × (is_fixed (code_of plan.now i) ≡ true) × (dictionary_of plan.now i ≡ 0) × (w ≡ entry_size (code_of plan.now i)) }
     requires n_in_bounds { (at + w * (slot + n) ≤ length body.now) × (start_of plan.now parts.now i 1 + p * w + w * n ≤ length room.old) }
-    ensures { (lengths places counters : List ℕ) (first source : ℕ) (child : Walk) → let j = join (was plan) (was parts) lengths places (was body) first source in at ≡ place j i 3 → p ≡ rows counters i → Did (was plan) (was parts) true (copy_data j child (code_of (was plan) i) i slot n counters) (was room) 0 counters (left room) }
+    ensures { (lengths places counters : List ℕ) (first source : ℕ) (child : Walk) → let j = join (was plan) (was parts) lengths places (was body) first source in at ≡ place j i 3 → p ≡ rows counters i → Did (was plan) (was parts) true (copy_data j child (code_of (was plan) i) i slot n counters) room.old 0 counters room.new }
 {
     let from = at + w * slot;
     let o = plan_words::scale(p, w);

@@ -63,7 +63,7 @@ fn put_end(plan: &[u64], parts: &[u64], counters: &mut [u64], room: &mut [u8], w
 // The nulls of the first node counted, if it keeps them.
 pub fn count_nulls(plan: &[u64], counters: &mut [u64], n: u64)
     requires { length counters.old ≡ 96 }
-    ensures { (parts room : List ℕ) → Did (was plan) parts true (count_nulls (join (was plan) parts [] [] [] 0 0) 0 n (was counters)) room 0 (left counters) room }
+    ensures { (parts room : List ℕ) → Did (was plan) parts true (count_nulls (join (was plan) parts [] [] [] 0 0) 0 n counters.old) room 0 counters.new room }
 {
     if plan_words::keeps_of(plan, 0) != 0 {
         leaf_counters::add_to(counters, 1, n);

@@ -38,7 +38,7 @@ fn fields_ground(plan: &[u64], parts: &[u64], counters: &[u64], m: usize, end: u
 // n ids of node h.
 fn put_ids(plan: &[u64], parts: &[u64], counters: &[u64], room: &mut [u8], h: usize, n: u64)
     requires { h < 32 }
-    ensures { Did (was plan) (was parts) true (null_ids (was plan) 0 h n (was counters)) (was room) 0 (was counters) (left room) }
+    ensures { Did (was plan) (was parts) true (null_ids (was plan) 0 h n (was counters)) room.old 0 (was counters) room.new }
 {
     let o = lent_tables::at_u64(counters, 0);
     let id = plan_words::id_of(plan, h);

@@ -169,7 +169,7 @@ fn put_entries(
 )
     requires first_bound { (first < 2 ^ 32) × (k < 32) × (slot + n < 2 ^ 63) × (1 ≤ w) × (w ≤ 16) }
     requires n_in_bounds { place (join [] [] [] places.now [] first 0) k 3 + w * (slot + n) ≤ length body.now }
-    ensures { AnyLengths plan parts places body first (λ j. Did (was plan) (was parts) true (copy_numbers j k w slot n (was counters)) (was room) 0 (was counters) (left room)) }
+    ensures { AnyLengths plan parts places body first (λ j. Did (was plan) (was parts) true (copy_numbers j k w slot n (was counters)) room.old 0 (was counters) room.new) }
 {
     let from = lent_tables::place(places, first + k, 3) + w * slot;
     let o = plan_words::scale(lent_tables::at_u64(counters, 3 * k), w);

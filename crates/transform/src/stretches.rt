@@ -23,7 +23,7 @@ pub fn copy_stretches(
     n: u64,
 ) -> u8
     requires { (length counters.old ≡ 96) × (first < 2 ^ 32) }
-    ensures counters_value { result ≡ 255 → (left counters ≡ was counters) × (left room ≡ was room) }
+    ensures counters_value { result ≡ 255 → (counters.new ≡ counters.old) × (room.new ≡ room.old) }
     ensures copies_any { (result ≡ 255 → ⊥) → CopiesAny plan parts lengths places body first start n counters room result }
 {
     if !batch::batch_walk::is_stretched(plan) {

@@ -1,6 +1,6 @@
 -- How the code walks a list of orders: over counters whose length and over a plan which were tested once. Assumes nothing.
 use Rattle.std.specs.Prelude.{◌≡◌, Bool, not, cond, ◌&&◌, List, ℕ, zero, suc, ◌-◌, min, leb, ltb, eqb}
-use Rattle.clauses.specs.Slices.{was, left, Slice}
+use Rattle.clauses.specs.Slices.{was, began, left, Slice, MutSlice}
 use Rattle.walk.specs.State.{keeps_of, far}
 use Rattle.walk.specs.Log.{Out, Did, done, need, next, each}
 use Rattle.walk.specs.Copy.{copy_walk}
@@ -38,6 +38,6 @@ pub record Stepped (plan parts : List ℕ) (write : Bool) (f : ℕ → List ℕ 
   pub place : p ≡ stops_at f n r c
 
 -- .. the steps from number 0 on, with the slices that it is lent
-abbrev pub Steps : (plan parts : Slice) → Bool → (ℕ → List ℕ → Out) → ℕ → (counters room : Slice) → Ended → Type 0
+abbrev pub Steps : (plan parts : Slice) → Bool → (ℕ → List ℕ → Out) → ℕ → (counters room : MutSlice) → Ended → Type 0
 Steps plan parts write f n counters room r =
-    Stepped (was plan) (was parts) write f n 0 (was counters) (was room) r.refusal r.place (left counters) (left room)
+    Stepped (was plan) (was parts) write f n 0 (began counters) (began room) r.refusal r.place (left counters) (left room)

@@ -1,6 +1,7 @@
 // A trip's orders as one, all or none. Each is tried in turn, on a copy of the counters and without a look at validity bits, and only where
 // none is refused are they written, one after the other: every order is walked twice at most, and nothing is taken back.
 #![tactic(auto)]
+
 ghost use Rattle.std.specs.Prelude.{◌≡◌, [], true, cond, ◌<◌, ◌≤◌, ◌/◌, length};
 ghost use Rattle.clauses.specs.Slices.{was, left};
 ghost use Rattle.leaf_walk.specs.Walks.{Walks};
@@ -151,7 +152,7 @@ fn carry_out(
     n: usize,
 ) -> Ended
     requires { (length counters.old ≡ 96) × (n ≤ 256) × (n ≡ length orders.now / 4) × (walkable plan.now (length room.old) ≡ true) }
-    ensures { Ends (trip_order (lent (was plan) (was parts) (was sources) (was lengths) (was places) (was body)) (was counters) (was room) (calls_of (was orders))) result (left counters) (left room) }
+    ensures { Ends (trip_order (lent (was plan) (was parts) (was sources) (was lengths) (was places) (was body)) counters.old room.old (calls_of (was orders))) result counters.new room.new }
 {
     let within = plan::parts::parts_within(plan, parts, room.len());
     let mut tried = transform::load(counters);
@@ -187,7 +188,7 @@ pub fn orders(
     room: &mut [u8],
     orders: &[u64],
 ) -> Ended
-    ensures { Ends (trip_order (lent (was plan) (was parts) (was sources) (was lengths) (was places) (was body)) (was counters) (was room) (calls_of (was orders))) result (left counters) (left room) }
+    ensures { Ends (trip_order (lent (was plan) (was parts) (was sources) (was lengths) (was places) (was body)) counters.old room.old (calls_of (was orders))) result counters.new room.new }
 {
     let n = orders.len() / WORDS;
     if LONGEST < n {
@@ -217,7 +218,7 @@ pub fn measure_orders(
     counters: &mut [u64],
     orders: &[u64],
 ) -> Ended
-    ensures { Asks (trip_measure (lent (was plan) [] (was sources) (was lengths) (was places) (was body)) (was counters) (calls_of (was orders))) result (left counters) }
+    ensures { Asks (trip_measure (lent (was plan) [] (was sources) (was lengths) (was places) (was body)) counters.old (calls_of (was orders))) result counters.new }
 {
     let n = orders.len() / WORDS;
     if LONGEST < n {

@@ -1,7 +1,7 @@
 -- A node of an accepted column and of a target that passes, and a stretch of its rows: slots s .. s + m - 1. Assumes nothing.
 use Rattle.std.specs.Prelude.{◌≡◌, Bool, true, cond, List, [], ℕ, ◌+◌, ◌<◌, ◌≤◌, length}
 use Rattle.std.proofs.Math.Option.{some}
-use Rattle.clauses.specs.Slices.{was, left, Slice}
+use Rattle.clauses.specs.Slices.{was, began, left, Slice, MutSlice}
 use Rattle.columnar.specs.Types.{Number, width}
 use Rattle.columnar.specs.Array.{ok}
 use Rattle.schema.specs.formats.Types.{number_of}
@@ -77,11 +77,11 @@ module _ (x : Tables) (plan : List ℕ) (i s n : ℕ) where
       (t t' : Tree) (m m' : Number) (c : List ℕ) → width m ≡ w → number_of code ≡ some m' → width m' ≡ w' → P (own_as t t' x plan (dictionary_node m) (dictionary_node m') i (ok (valid_of x i)) s n c) c
 
 -- the ranges of the m fields of a union, as they are settled
-abbrev pub SettlesFields : (schema lengths places body plan : Slice) → (first count : ℕ) → (List ℕ → NodeKind) → (m i s n : ℕ) → (ranges : Slice) → Type 0
+abbrev pub SettlesFields : (schema lengths places body plan : Slice) → (first count : ℕ) → (List ℕ → NodeKind) → (m i s n : ℕ) → (ranges : MutSlice) → Type 0
 SettlesFields schema lengths places body plan first count kind m i s n ranges =
-    (formats buffers ids : List ℕ) (t' : Tree) → length ids ≡ m → left ranges ≡ settle_as (tree_of formats (was schema) first count) t' (column (was lengths) (was places) buffers (was body) first) (was plan) (kind ids) i s n (was ranges)
+    (formats buffers ids : List ℕ) (t' : Tree) → length ids ≡ m → left ranges ≡ settle_as (tree_of formats (was schema) first count) t' (column (was lengths) (was places) buffers (was body) first) (was plan) (kind ids) i s n (began ranges)
 
 -- .. all rows of each, or the slots s .. s + n - 1
-abbrev pub SettlesChildren : (schema lengths : Slice) → (first count : ℕ) → Bool → (s n i m : ℕ) → (ranges : Slice) → Type 0
+abbrev pub SettlesChildren : (schema lengths : Slice) → (first count : ℕ) → Bool → (s n i m : ℕ) → (ranges : MutSlice) → Type 0
 SettlesChildren schema lengths first count whole s n i m ranges =
-    (formats places buffers body plan : List ℕ) (t : Tree) → left ranges ≡ child_ranges (tree_of formats (was schema) first count) t (column (was lengths) places buffers body first) plan (λ k. cond whole 0 s) (λ k. cond whole (length_of (column (was lengths) places buffers body first) k) n) i m (was ranges)
+    (formats places buffers body plan : List ℕ) (t : Tree) → left ranges ≡ child_ranges (tree_of formats (was schema) first count) t (column (was lengths) places buffers body first) plan (λ k. cond whole 0 s) (λ k. cond whole (length_of (column (was lengths) places buffers body first) k) n) i m (began ranges)

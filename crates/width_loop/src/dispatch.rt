@@ -33,7 +33,7 @@ fn nested_node(
     requires here { Here formats.now schema.now lengths.now places.now body.now first count target i s n }
     requires fact { let c = code_of formats.now schema.now first i in (is_fixed c ≡ false) × (is_string c ≡ false) × (is_view c ≡ false) }
     ensures by_index { (buffers : List ℕ) → Walks plan parts write (own_lent formats schema lengths places body plan buffers first count target i s n) counters room result }
-    ensures by_index_2 { (buffers : List ℕ) → result ≡ 0 → left ranges ≡ settled_lent formats schema lengths places body plan buffers first count target i s n (was ranges) }
+    ensures by_index_2 { (buffers : List ℕ) → result ≡ 0 → ranges.new ≡ settled_lent formats schema lengths places body plan buffers first count target i s n ranges.old }
 {
     let code = schema::code_of(formats, schema, first as usize, i);
     if schema::formats::is_run_end(code) {
@@ -83,7 +83,7 @@ pub fn walk_data(
 ) -> u8
     requires { Here formats.now schema.now lengths.now places.now body.now first count target i s n }
     ensures by_index { (buffers : List ℕ) → Walks plan parts write (own_lent formats schema lengths places body plan buffers first count target i s n) counters room result }
-    ensures by_index_2 { (buffers : List ℕ) → result ≡ 0 → left ranges ≡ settled_lent formats schema lengths places body plan buffers first count target i s n (was ranges) }
+    ensures by_index_2 { (buffers : List ℕ) → result ≡ 0 → ranges.new ≡ settled_lent formats schema lengths places body plan buffers first count target i s n ranges.old }
 {
     let code = schema::code_of(formats, schema, first as usize, i);
     if schema::formats::is_fixed(code) {

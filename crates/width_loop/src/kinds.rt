@@ -40,8 +40,8 @@ fn put_chars(
     span: u64,
 )
     requires { (i < 32) × (place (column [] places.now [] [] first) i 5 + base + span ≤ length body.now) }
-    ensures room_value { left room ≡ apply_if (was plan) (was parts) write (put i 2 0 (take span (drop (place (column [] (was places) [] [] first) i 5 + base) (was body))) ∷ []) (was room) }
-    ensures counters_value { left counters ≡ set_bytes i span (was counters) }
+    ensures room_value { room.new ≡ apply_if (was plan) (was parts) write (put i 2 0 (take span (drop (place (column [] (was places) [] [] first) i 5 + base) (was body))) ∷ []) room.old }
+    ensures counters_value { counters.new ≡ set_bytes i span counters.old }
 {
     let from = entries::place_at(places, first, i, 5) + base;
     room_writes::put_copy(plan, parts, room, write, i, 2, 0, body, from as usize, span);
@@ -105,7 +105,7 @@ pub fn walk_list_view(
     requires fact_3 { let c = column lengths.now places.now [] body.now first in let m = length_of c (suc i) in AtMost w (first_buffer c i) s n m × AtMost w (second_buffer c i) s n m }
     requires w_value { ((w ≡ 4 → ⊥) → w ≡ 8) × ((w2 ≡ 4 → ⊥) → w2 ≡ 8) }
     ensures any_tree { AnyTree (column [] (was places) [] (was body) first) (was plan) i s n (list_view_node w) (list_view_node w2) (λ own. Writes plan parts write own room result) }
-    ensures ranges_value { (t t2 : Tree) → result ≡ 0 → left ranges ≡ settle_as t t2 (column (was lengths) (was places) [] (was body) first) (was plan) (list_view_node w) i s n (was ranges) }
+    ensures ranges_value { (t t2 : Tree) → result ≡ 0 → ranges.new ≡ settle_as t t2 (column (was lengths) (was places) [] (was body) first) (was plan) (list_view_node w) i s n ranges.old }
 {
     let at = entries::place_at(places, first, i, 3);
     let too = entries::place_at(places, first, i, 5);
@@ -140,7 +140,7 @@ pub fn walk_list(
     requires w_value { ((w ≡ 4 → ⊥) → w ≡ 8) × ((w2 ≡ 4 → ⊥) → w2 ≡ 8) }
     requires by_index { (most : ℕ) × OffsetsRule w (first_buffer (column [] places.now [] body.now first) i) most s n }
     ensures any_tree { AnyTree (column [] (was places) [] (was body) first) (was plan) i s n (list_node w) (list_node w2) (λ own. Writes plan parts write own room result) }
-    ensures ranges_value { (t t2 : Tree) → result ≡ 0 → left ranges ≡ settle_as t t2 (column [] (was places) [] (was body) first) (was plan) (list_node w) i s n (was ranges) }
+    ensures ranges_value { (t t2 : Tree) → result ≡ 0 → ranges.new ≡ settle_as t t2 (column [] (was places) [] (was body) first) (was plan) (list_node w) i s n ranges.old }
 {
     let at = entries::place_at(places, first, i, 3);
     let size = entries::place_at(places, first, i, 4);
@@ -234,7 +234,7 @@ pub fn walk_keys(
     requires i_value { (valid_in (column [] places.now [] body.now first) i ≡ true) × (mask_test true (valid_of (column [] places.now [] body.now first) i) (s + n) ≡ true) }
     requires w_value { ((w ≡ 1 → ⊥) → (w ≡ 2 → ⊥) → (w ≡ 4 → ⊥) → w ≡ 8) × ((w2 ≡ 1 → ⊥) → (w2 ≡ 2 → ⊥) → (w2 ≡ 4 → ⊥) → w2 ≡ 8) }
     ensures fact { let x = column (was lengths) (was places) [] (was body) first in AnyKeys x (was plan) i s n w w2 code (λ own c. Stays plan parts write own room result c) }
-    ensures ranges_value { (t t2 : Tree) (m : Number) → result ≡ 0 → left ranges ≡ settle_as t t2 (column (was lengths) (was places) [] (was body) first) (was plan) (dictionary_node m) i s n (was ranges) }
+    ensures ranges_value { (t t2 : Tree) (m : Number) → result ≡ 0 → ranges.new ≡ settle_as t t2 (column (was lengths) (was places) [] (was body) first) (was plan) (dictionary_node m) i s n ranges.old }
 {
     let entries = entries::length_at(lengths, first, i + 1);
     if !dictionaries::key_fits(0, entries, code) {

@@ -64,7 +64,7 @@ pub fn put_slots(
     n: u64,
 )
     requires { (i < 32) × (b < 3) × (at + w * (s + n) ≤ length body.now) }
-    ensures { left room ≡ apply_if (was plan) (was parts) write (put i b 0 (take (w * n) (drop (at + w * s) (was body))) ∷ []) (was room) }
+    ensures { room.new ≡ apply_if (was plan) (was parts) write (put i b 0 (take (w * n) (drop (at + w * s) (was body))) ∷ []) room.old }
 {
     let from = at + w * s;
     room_writes::put_copy(
@@ -247,7 +247,7 @@ pub fn put_keys(
     requires fact { let c = column [] places.now [] body.now first in (i < 32) × (s + n < 2 ^ 63) × ((s + n) * w ≤ place c i 4) × (place c i 3 + place c i 4 ≤ length body.now) }
     requires i_value { (valid_in (column [] places.now [] body.now first) i ≡ true) × (mask_test true (valid_of (column [] places.now [] body.now first) i) (s + n) ≡ true) }
     requires w_value { ((w ≡ 1 → ⊥) → (w ≡ 2 → ⊥) → (w ≡ 4 → ⊥) → w ≡ 8) × ((w2 ≡ 1 → ⊥) → (w2 ≡ 2 → ⊥) → (w2 ≡ 4 → ⊥) → w2 ≡ 8) }
-    ensures { let c = column [] (was places) [] (was body) first in left room ≡ apply_if (was plan) (was parts) write (put i 1 0 (encodes w2 (keys_in c w i s n)) ∷ []) (was room) }
+    ensures { let c = column [] (was places) [] (was body) first in room.new ≡ apply_if (was plan) (was parts) write (put i 1 0 (encodes w2 (keys_in c w i s n)) ∷ []) room.old }
 {
     let at = entries::place_at(places, first, i, 3);
     let from = at + w * s;

@@ -1,6 +1,7 @@
 // The walk of the converter between widths, in code: one loop over the nodes of a column, each written in its turn. The same code tries, where it
 // changes the counters alone, and writes.
 #![tactic(auto)]
+
 mod dispatch;
 mod kinds;
 mod leaves;
@@ -42,8 +43,8 @@ fn walk_node(
 ) -> u8
     requires accepted { Accepted formats.now schema.now lengths.now places.now body.now first count target × (i < count) }
     requires i_in_bounds { from_in ranges.old i + many_in ranges.old i ≤ length_of (column lengths.now [] [] [] first) i }
-    ensures by_index { (buffers : List ℕ) → Walks plan parts write (turn_lent formats schema lengths places body plan buffers first count target i (was ranges)) counters room result }
-    ensures by_index_2 { (buffers : List ℕ) → result ≡ 0 → left ranges ≡ settle_lent formats schema lengths places body plan buffers first count target i (was ranges) }
+    ensures by_index { (buffers : List ℕ) → Walks plan parts write (turn_lent formats schema lengths places body plan buffers first count target i ranges.old) counters room result }
+    ensures by_index_2 { (buffers : List ℕ) → result ≡ 0 → ranges.new ≡ settle_lent formats schema lengths places body plan buffers first count target i ranges.old }
 {
     if width_walks::target_rules::is_ends_at(formats, schema, first as usize, i) {
         return 0;

@@ -42,7 +42,7 @@ pub fn number_node(
     requires by_index { (count : ℕ) × Here formats.now schema.now lengths.now places.now body.now first count target i s n }
     requires fact { let c = code_of formats.now schema.now first i in (is_fixed c ≡ true) × (own ≡ c) }
     ensures by_index_2 { (buffers c : List ℕ) (count : ℕ) → Stays plan parts write (own_lent formats schema lengths places body plan buffers first count target i s n c) room result c }
-    ensures by_index_3 { (buffers : List ℕ) (count : ℕ) → result ≡ 0 → left ranges ≡ settled_lent formats schema lengths places body plan buffers first count target i s n (was ranges) }
+    ensures by_index_3 { (buffers : List ℕ) (count : ℕ) → result ≡ 0 → ranges.new ≡ settled_lent formats schema lengths places body plan buffers first count target i s n ranges.old }
 {
     let w = schema::formats::width_of(own) as u64;
     if schema::dictionary_of(schema, first as usize, i) == 0 {
@@ -108,7 +108,7 @@ pub fn list_view_node(
     requires by_index { (count : ℕ) × Here formats.now schema.now lengths.now places.now body.now first count target i s n }
     requires i_value { is_list_view (code_of formats.now schema.now first i) ≡ true }
     ensures by_index_2 { (buffers c : List ℕ) (count : ℕ) → Stays plan parts write (own_lent formats schema lengths places body plan buffers first count target i s n c) room result c }
-    ensures by_index_3 { (buffers : List ℕ) (count : ℕ) → result ≡ 0 → left ranges ≡ settled_lent formats schema lengths places body plan buffers first count target i s n (was ranges) }
+    ensures by_index_3 { (buffers : List ℕ) (count : ℕ) → result ≡ 0 → ranges.new ≡ settled_lent formats schema lengths places body plan buffers first count target i s n ranges.old }
 {
     let w = width_at(formats, schema, first, i);
     let w2 = width_at(formats, schema, target, i);
@@ -138,7 +138,7 @@ pub fn list_node(
     requires by_index { (count : ℕ) × Here formats.now schema.now lengths.now places.now body.now first count target i s n }
     requires i_value { is_list (code_of formats.now schema.now first i) ≡ true }
     ensures by_index_2 { (buffers c : List ℕ) (count : ℕ) → Stays plan parts write (own_lent formats schema lengths places body plan buffers first count target i s n c) room result c }
-    ensures by_index_3 { (buffers : List ℕ) (count : ℕ) → result ≡ 0 → left ranges ≡ settled_lent formats schema lengths places body plan buffers first count target i s n (was ranges) }
+    ensures by_index_3 { (buffers : List ℕ) (count : ℕ) → result ≡ 0 → ranges.new ≡ settled_lent formats schema lengths places body plan buffers first count target i s n ranges.old }
 {
     let w = width_at(formats, schema, first, i);
     let w2 = width_at(formats, schema, target, i);
@@ -168,7 +168,7 @@ pub fn union_node(
     requires by_index { (target : ℕ) × Here formats.now schema.now lengths.now places.now body.now first count target i s n }
     requires i_value { is_union (code_of formats.now schema.now first i) ≡ true }
     ensures by_index_2 { (buffers c : List ℕ) (target : ℕ) → Stays plan parts write (own_lent formats schema lengths places body plan buffers first count target i s n c) room 0 c }
-    ensures by_index_3 { (buffers : List ℕ) (target : ℕ) → left ranges ≡ settled_lent formats schema lengths places body plan buffers first count target i s n (was ranges) }
+    ensures by_index_3 { (buffers : List ℕ) (target : ℕ) → ranges.new ≡ settled_lent formats schema lengths places body plan buffers first count target i s n ranges.old }
 {
     let m = schema::below_of(schema, first as usize, i) as usize;
     let k = count as usize;
@@ -205,7 +205,7 @@ pub fn run_node(
     requires by_index { (count : ℕ) × Here formats.now schema.now lengths.now places.now body.now first count target i s n }
     requires i_value { is_run_end (code_of formats.now schema.now first i) ≡ true }
     ensures by_index_2 { (buffers : List ℕ) (count : ℕ) → Walks plan parts write (own_lent formats schema lengths places body plan buffers first count target i s n) counters room result }
-    ensures by_index_3 { (buffers : List ℕ) (count : ℕ) → result ≡ 0 → left ranges ≡ settled_lent formats schema lengths places body plan buffers first count target i s n (was ranges) }
+    ensures by_index_3 { (buffers : List ℕ) (count : ℕ) → result ≡ 0 → ranges.new ≡ settled_lent formats schema lengths places body plan buffers first count target i s n ranges.old }
 {
     let w = width_at(formats, schema, first, i + 1);
     let w2 = width_at(formats, schema, target, i + 1);

@@ -12,7 +12,7 @@ use array_data::entries;
 // The rows of node k: n from row a on.
 pub fn set_range(ranges: &mut [u64; 64], k: usize, a: u64, n: u64)
     requires { k < 32 }
-    ensures { left ranges ≡ range k a n (was ranges) }
+    ensures { ranges.new ≡ range k a n ranges.old }
 {
     ranges[2 * k] = a;
     ranges[2 * k + 1] = n;
@@ -29,7 +29,7 @@ fn set_child(
     n: u64,
 )
     requires { k < 32 }
-    ensures { (places buffers body : List ℕ) → left ranges ≡ range k (cond whole 0 s) (cond whole (length_of (column (was lengths) places buffers body first) k) n) (was ranges) }
+    ensures { (places buffers body : List ℕ) → ranges.new ≡ range k (cond whole 0 s) (cond whole (length_of (column (was lengths) places buffers body first) k) n) ranges.old }
 {
     if whole {
         set_range(ranges, k, 0, entries::length_at(lengths, first, k));

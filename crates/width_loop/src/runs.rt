@@ -40,8 +40,8 @@ fn put_range(
 )
     requires i_bound { (i + 2 < 32) × (1 ≤ m) × (ends + w * (a + m) ≤ length body.now) }
     requires w_value { ((w ≡ 2 → ⊥) → (w ≡ 4 → ⊥) → w ≡ 8) × ((w2 ≡ 2 → ⊥) → (w2 ≡ 4 → ⊥) → w2 ≡ 8) }
-    ensures room_value { left room ≡ apply_if (was plan) (was parts) write (put (suc i) 1 0 (lessened w w2 (was body) (ends + w * a) s (m - 1) ++ encode w2 n) ∷ []) (was room) }
-    ensures counters_value { (left counters ≡ add_rows (suc i) m (was counters)) × (left ranges ≡ range (suc (suc i)) a m (was ranges)) }
+    ensures room_value { room.new ≡ apply_if (was plan) (was parts) write (put (suc i) 1 0 (lessened w w2 (was body) (ends + w * a) s (m - 1) ++ encode w2 n) ∷ []) room.old }
+    ensures counters_value { (counters.new ≡ add_rows (suc i) m counters.old) × (ranges.new ≡ range (suc (suc i)) a m ranges.old) }
 {
     let from = ends + w * a;
     width_walks::width_writes::put_ends(
@@ -85,7 +85,7 @@ fn put_runs(
     requires w_value { ((w ≡ 2 → ⊥) → (w ≡ 4 → ⊥) → w ≡ 8) × ((w2 ≡ 2 → ⊥) → (w2 ≡ 4 → ⊥) → w2 ≡ 8) }
     requires runs_here { RunsHere (column lengths.now places.now [] body.now first) i w s n }
     ensures walks { Walks plan parts write (runs_walk (column (was lengths) (was places) [] (was body) first) w w2 i s n) counters room 0 }
-    ensures ranges_value { left ranges ≡ runs_range (column (was lengths) (was places) [] (was body) first) w i s n (was ranges) }
+    ensures ranges_value { ranges.new ≡ runs_range (column (was lengths) (was places) [] (was body) first) w i s n ranges.old }
 {
     let off = entries::offset_at(lengths, first, i + 1);
     let ends = entries::place_at(places, first, i + 1, 3) + w * off;
@@ -141,7 +141,7 @@ pub fn walk_runs(
     requires w_value { ((w ≡ 2 → ⊥) → (w ≡ 4 → ⊥) → w ≡ 8) × ((w2 ≡ 2 → ⊥) → (w2 ≡ 4 → ⊥) → w2 ≡ 8) }
     requires runs_here { RunsHere (column lengths.now places.now [] body.now first) i w s n }
     ensures any_tree { AnyTree (column (was lengths) (was places) [] (was body) first) (was plan) i s n (run_end_node w) (run_end_node w2) (λ own. Walks plan parts write own counters room result) }
-    ensures ranges_value { (t t2 : Tree) → result ≡ 0 → left ranges ≡ settle_as t t2 (column (was lengths) (was places) [] (was body) first) (was plan) (run_end_node w) i s n (was ranges) }
+    ensures ranges_value { (t t2 : Tree) → result ≡ 0 → ranges.new ≡ settle_as t t2 (column (was lengths) (was places) [] (was body) first) (was plan) (run_end_node w) i s n ranges.old }
 {
     if n == 0 {
         plan_words::add_rows(counters, i + 1, 0);

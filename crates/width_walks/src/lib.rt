@@ -1,5 +1,6 @@
 // The walk of the converter between widths: its definitions and laws, and where the nodes of its result come from.
 #![tactic(auto)]
+
 pub mod target_rules;
 pub mod width_writes;
 
@@ -22,7 +23,7 @@ fn from_word(formats: &[u8], schema: &[u32], first: usize, i: usize) -> u64
 // For each of the n nodes of a result one more than the number of the column's node that it comes from; 0 for run ends, which keep no nulls.
 pub fn write_from(formats: &[u8], schema: &[u32], first: usize, n: usize, from: &mut [u64; 32])
     requires { (n ≤ 32) × (first < 2 ^ 32) }
-    ensures { left from ≡ from_words (was formats) (was schema) first n (was from) }
+    ensures { from.new ≡ from_words (was formats) (was schema) first n from.old }
 {
     let mut i = 0;
     while i < n {

@@ -27,7 +27,7 @@ pub fn put_less(
     requires i_bound { (i < 32) × (b < 3) × (from + w * n ≤ length body.now) }
     requires w_value { (w ≡ 2 → ⊥) → (w ≡ 4 → ⊥) → w ≡ 8 }
     requires w2_value { (w2 ≡ 2 → ⊥) → (w2 ≡ 4 → ⊥) → w2 ≡ 8 }
-    ensures { left room ≡ apply_if (was plan) (was parts) write (put i b 0 (lessened w w2 (was body) from base n) ∷ []) (was room) }
+    ensures { room.new ≡ apply_if (was plan) (was parts) write (put i b 0 (lessened w w2 (was body) from base n) ∷ []) room.old }
 {
     let size = plan_words::scale(n, w2);
     match plan_words::target(plan, parts, room.len(), write, i, b, 0, size) {
@@ -55,7 +55,7 @@ pub fn put_recoded(
     requires i_bound { (i < 32) × (b < 3) × (from + w * n ≤ length body.now) }
     requires w_value { (w ≡ 1 → ⊥) → (w ≡ 2 → ⊥) → (w ≡ 4 → ⊥) → w ≡ 8 }
     requires w2_value { (w2 ≡ 1 → ⊥) → (w2 ≡ 2 → ⊥) → (w2 ≡ 4 → ⊥) → w2 ≡ 8 }
-    ensures { left room ≡ apply_if (was plan) (was parts) write (put i b 0 (recoded w w2 (was body) from n) ∷ []) (was room) }
+    ensures { room.new ≡ apply_if (was plan) (was parts) write (put i b 0 (recoded w w2 (was body) from n) ∷ []) room.old }
 {
     let size = plan_words::scale(n, w2);
     match plan_words::target(plan, parts, room.len(), write, i, b, 0, size) {
@@ -83,7 +83,7 @@ pub fn put_valid(
     requires i_bound { (i < 32) × (b < 3) × (from + w * n ≤ length body.now) × (8 * valid + a + n ≤ 8 * length body.now) × (a + n < 2 ^ 64) }
     requires w_value { (w ≡ 1 → ⊥) → (w ≡ 2 → ⊥) → (w ≡ 4 → ⊥) → w ≡ 8 }
     requires w2_value { (w2 ≡ 1 → ⊥) → (w2 ≡ 2 → ⊥) → (w2 ≡ 4 → ⊥) → w2 ≡ 8 }
-    ensures { left room ≡ apply_if (was plan) (was parts) write (put i b 0 (valid_only w w2 (was body) from (8 * valid + a) n) ∷ []) (was room) }
+    ensures { room.new ≡ apply_if (was plan) (was parts) write (put i b 0 (valid_only w w2 (was body) from (8 * valid + a) n) ∷ []) room.old }
 {
     let size = plan_words::scale(n, w2);
     match plan_words::target(plan, parts, room.len(), write, i, b, 0, size) {
@@ -98,7 +98,7 @@ pub fn put_valid(
 fn write_end(room: &mut [u8], at: usize, w: u64, v: u64)
     requires w_in_bounds { at + w ≤ length room.old }
     requires w_value { (w ≡ 2 → ⊥) → (w ≡ 4 → ⊥) → w ≡ 8 }
-    ensures { left room ≡ splice at (encode w v) (was room) }
+    ensures { room.new ≡ splice at (encode w v) room.old }
 {
     match w {
         2 => number::write_u16(room, at, (v % 65536) as u16),
@@ -122,7 +122,7 @@ fn write_ends(
     requires le_m { (1 ≤ m) × (at + w2 * m ≤ length room.old) × (from + w * m ≤ length body.now) }
     requires w_value { (w ≡ 2 → ⊥) → (w ≡ 4 → ⊥) → w ≡ 8 }
     requires w2_value { (w2 ≡ 2 → ⊥) → (w2 ≡ 4 → ⊥) → w2 ≡ 8 }
-    ensures { left room ≡ splice at (lessened w w2 (was body) from base (m - 1) ++ encode w2 last) (was room) }
+    ensures { room.new ≡ splice at (lessened w w2 (was body) from base (m - 1) ++ encode w2 last) room.old }
 {
     offsets::recode_less(room, at, w2, body, from, w, m - 1, base);
     write_end(room, at + (w2 as usize) * (m - 1), w2, last);
@@ -147,7 +147,7 @@ pub fn put_ends(
     requires i_bound { (i < 32) × (b < 3) × (1 ≤ m) × (from + w * m ≤ length body.now) }
     requires w_value { (w ≡ 2 → ⊥) → (w ≡ 4 → ⊥) → w ≡ 8 }
     requires w2_value { (w2 ≡ 2 → ⊥) → (w2 ≡ 4 → ⊥) → w2 ≡ 8 }
-    ensures { left room ≡ apply_if (was plan) (was parts) write (put i b 0 (lessened w w2 (was body) from base (m - 1) ++ encode w2 last) ∷ []) (was room) }
+    ensures { room.new ≡ apply_if (was plan) (was parts) write (put i b 0 (lessened w w2 (was body) from base (m - 1) ++ encode w2 last) ∷ []) room.old }
 {
     let size = plan_words::scale(m, w2);
     match plan_words::target(plan, parts, room.len(), write, i, b, 0, size) {

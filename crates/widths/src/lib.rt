@@ -1,5 +1,6 @@
 // A column in other widths: the question before any room is lent, and the call. The result is finished as a join is.
 #![tactic(auto)]
+
 ghost use Rattle.std.specs.Prelude.{◌≡◌, true, List, ℕ, ◌≤◌, length, replicate};
 ghost use Rattle.clauses.specs.Slices.{was, left};
 ghost use Rattle.array_data.specs.lent_tables.Lent.{tables};
@@ -73,7 +74,7 @@ fn words_of(
     words: &mut [u64; result_plan::NODE_WORDS],
 )
     requires { (n ≤ 32) × Comes (tables lengths.now places.now body.now) first n (from_words formats.now schema.now first n (replicate 32 0)) }
-    ensures { left words ≡ words_of (was formats) (was schema) (tables (was lengths) (was places) (was body)) first n target }
+    ensures { words.new ≡ words_of (was formats) (was schema) (tables (was lengths) (was places) (was body)) first n target }
 {
     let from = from_words(formats, schema, first, n);
     result_plan::words_anew(
@@ -107,7 +108,7 @@ pub fn plan_convert(
     plan: &mut [u64],
     counters: &mut [u64],
 ) -> u8
-    ensures { Asks (asked (was formats) (was schema) (lent_tables lengths places buffers body) first n target target_n (was plan) (was counters)) result (left plan) (left counters) }
+    ensures { Asks (asked (was formats) (was schema) (lent_tables lengths places buffers body) first n target target_n plan.old counters.old) result plan.new counters.new }
 {
     let g = ground_of(
         formats, schema, lengths, places, buffers, body, first, n, target, target_n,
@@ -171,8 +172,8 @@ fn make(
     requires plan_len { (length plan.old ≡ 872) × (length counters.old ≡ 96) × (n ≤ 32) }
     requires by_index { (buffers : List ℕ) × (column_ground formats.now schema.now (tables_of lengths.now places.now buffers body.now) first n ≡ 0) }
     requires n_value { is_target formats.now schema.now first n target n ≡ true }
-    ensures plan_value { left plan ≡ plan_by (was words) n 0 }
-    ensures fact { let p = plan_by (was words) n 0 in ((buffers : List ℕ) → Did p (was parts) true (walk_by (was formats) (was schema) (tables_of (was lengths) (was places) buffers (was body)) first n target p) (was room) result (left counters) (left room)) }
+    ensures plan_value { plan.new ≡ plan_by (was words) n 0 }
+    ensures fact { let p = plan_by (was words) n 0 in ((buffers : List ℕ) → Did p (was parts) true (walk_by (was formats) (was schema) (tables_of (was lengths) (was places) buffers (was body)) first n target p) room.old result counters.new room.new) }
 {
     result_plan::plan_by(words, n as usize, 0, plan);
     let mut tally = [0u64; plan_words::COUNTERS];

@@ -1,6 +1,7 @@
 // The opening of a join on lent memory: it is tried first, on counters of its own, and made where no ground is found. A refused one changes nothing.
 // Follows `try_with_capacities` of arrow-data 60.1.0 src/transform/mod.rs, Apache-2.0; see NOTICE.
 #![tactic(auto)]
+
 pub mod open_walk;
 
 ghost use Rattle.std.specs.Prelude.{◌≡◌, ◌&&◌, ◌≤◌, length, replicate, eqb};
@@ -22,7 +23,7 @@ use walk::plan_words;
 // The n numbers of a slice into another one.
 pub fn store(to: &mut [u64], from: &[u64], n: usize)
     requires { (length to.old ≡ n) × (length from.now ≡ n) }
-    ensures { left to ≡ was from }
+    ensures { to.new ≡ was from }
 {
     let mut i = 0;
     while i < n {
@@ -163,7 +164,7 @@ pub fn plan_parts(
     gaps: bool,
     plan: &mut [u64],
 ) -> u8
-    ensures { Plans (asked (was formats) (was schema) (was sources) (tables_of (was lengths) (was places) (was buffers) (was body)) keep gaps (was plan)) result (left plan) }
+    ensures { Plans (asked (was formats) (was schema) (was sources) (tables_of (was lengths) (was places) (was buffers) (was body)) keep gaps plan.old) result plan.new }
 {
     let g = columns::sources_ground(sources, formats, schema, lengths, places, buffers, body);
     if g != 0 {

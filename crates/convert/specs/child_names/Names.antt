@@ -1,6 +1,6 @@
 -- WHAT NAMING THE CHILD of a list-view comes to on lent memory (02, W4): the ground, and the tables after it. Assumes nothing.
 use Rattle.std.specs.Prelude.{◌≡◌, Bool, cond, ◌&&◌, List, [], ℕ, ◌+◌, ◌*◌, ◌/◌, ◌%◌, length, get_or, ltb, eqb}
-use Rattle.clauses.specs.Slices.{was, left, Slice}
+use Rattle.clauses.specs.Slices.{began, left, MutSlice}
 use Rattle.array_data.specs.Tables.{Tables, place}
 use Rattle.array_data.specs.lent_tables.Lent.{tables}
 use Rattle.columns.specs.Grounds.{column_ground}
@@ -39,8 +39,8 @@ pub record Names (a : Naming) (r : ℕ) (lengths nulls places : List ℕ) : Type
   pub places_are : places ≡ a.places
 
 -- .. of a call that is lent all three tables
-abbrev pub Named : (List ℕ → List ℕ → List ℕ → Naming) → (lengths nulls places : Slice) → ℕ → Type 0
-Named name lengths nulls places r = Names (name (was lengths) (was nulls) (was places)) r (left lengths) (left nulls) (left places)
+abbrev pub Named : (List ℕ → List ℕ → List ℕ → Naming) → (lengths nulls places : MutSlice) → ℕ → Type 0
+Named name lengths nulls places r = Names (name (began lengths) (began nulls) (began places)) r (left lengths) (left nulls) (left places)
 
 -- ---- for whoever proves
 

@@ -1,6 +1,6 @@
 -- Entries that are numbers without validity and lie in the body (W9). Assumes nothing.
 use Rattle.std.specs.Prelude.{◌≡◌, Bool, true, cond, List, [], ℕ, ◌+◌, ◌*◌, ◌≤◌, ◌<◌, length}
-use Rattle.clauses.specs.Slices.{was, left, Slice}
+use Rattle.clauses.specs.Slices.{was, began, left, Slice, MutSlice}
 use Rattle.number.specs.Number.{splice}
 use Rattle.schema.specs.formats.Code.{is_fixed}
 use Rattle.walk.specs.State.{Join, code_of, dictionary_of, keeps_of, bytes_of, place, offset_of, far}
@@ -36,5 +36,5 @@ abbrev pub behind : (plan parts : List ℕ) → ℕ → ℕ
 behind plan parts have = start_of plan parts 1 1 + have * bytes_of plan 1
 
 -- m bytes stand at `to`, if they are written: there is room
-abbrev pub Stand : Bool → (room : Slice) → ℕ → List ℕ → ℕ → Type 0
-Stand write room to bytes m = (write ≡ true → to + m ≤ length (was room)) × (left room ≡ cond write (splice to bytes (was room)) (was room))
+abbrev pub Stand : Bool → (room : MutSlice) → ℕ → List ℕ → ℕ → Type 0
+Stand write room to bytes m = (write ≡ true → to + m ≤ length (began room)) × (left room ≡ cond write (splice to bytes (began room)) (began room))

@@ -1,7 +1,7 @@
 -- The keys of a dictionary column's rows as they stand in a body, the entries that they use, and the keys renumbered (W9).
 -- Assumes nothing.
 use Rattle.std.specs.Prelude.{◌≡◌, Bool, true, cond, ◌&&◌, List, ℕ, ◌+◌, ◌*◌, ◌-◌, ◌^◌, ◌≤◌, ◌<◌, length, get_or, leb, ltb, eqb}
-use Rattle.clauses.specs.Slices.{was, left, Slice}
+use Rattle.clauses.specs.Slices.{began, left, MutSlice}
 use Rattle.number.specs.Number.{entry, splice}
 use Rattle.bits.specs.Bits.{bits}
 use Rattle.columnar.specs.Row.{seg}
@@ -72,8 +72,8 @@ module _ (x : Keys) where
   new_below e = encodes x.wide (seg (new_key e) 0 x.len)
 
   -- a room that holds the keys by the entries below e, at `to`, holds those by the entries below e'
-  abbrev pub Renumbers : (room : Slice) → (to e e' : ℕ) → Type 0
-  Renumbers room to e e' = (old : List ℕ) → to + x.wide * x.len ≤ length old → was room ≡ splice to (new_below e) old → left room ≡ splice to (new_below e') old
+  abbrev pub Renumbers : (room : MutSlice) → (to e e' : ℕ) → Type 0
+  Renumbers room to e e' = (old : List ℕ) → to + x.wide * x.len ≤ length old → began room ≡ splice to (new_below e) old → left room ≡ splice to (new_below e') old
 
   -- where the key of row r falls in the block of n entries from b on; 512 where the row is null or its key falls outside
   unfoldable pub slot_in : ℕ → ℕ → ℕ → ℕ

@@ -1,0 +1,14 @@
+use Prim.Native.Nat.{◌-◌, ◌≤◌}
+use mathlib.Core.Path.{◌≡◌}
+use mathlib.Core.Bool.{true}
+use mathlib.Core.List.{[]}
+use Rattle.model.specs.Opening.{entries_before}
+use Rattle.array_data.specs.lent_tables.Lent.{tables}
+use Rattle.plan.specs.dictionaries.Sources.{dict_at, capped}
+use Rattle.plan.proofs.dictionaries.entries_before.Given as goal
+
+abbrev pub invariant-loop-s : goal.invariant-loop-s
+invariant-loop-s l = (l.s ≤ l.j) × (l.sum ≡ capped (entries_before (dict_at (tables l.lengths [] []) l.sources true l.i) l.s))
+
+abbrev pub decreases-loop-s : goal.decreases-loop-s
+decreases-loop-s l = l.j - l.s

@@ -1,0 +1,6 @@
+-- `parts::in_room` meets its contract. Assumes nothing.
+use mathlib.Core.Path.{◌∙◌}
+use Rattle.plan.proofs.placed.in_room.Goals as goal
+
+pub returns : goal.returns
+returns c = c.fits.ensures ∙ rw (c.at_u64-start.ensures, c.at_u64-size.ensures)

@@ -1,0 +1,30 @@
+-- `parts::is_apart` meets its contract. The invariant: part p is apart from those below q. Assumes nothing.
+use Prim.Native.Nat.{◌-◌}
+use mathlib.Core.Path.{refl, sym}
+use native.Mathlib.Omega.{arith}
+use Rattle.columnar.proofs.Test.{every_false}
+use Rattle.array_data.proofs.lent_tables.Laws.{no, yes}
+use Rattle.plan.specs.parts.Parts.{apart}
+use Rattle.plan.proofs.parts.Laws.{every_one, every_now}
+use Rattle.plan.proofs.placed.is_apart.Goals as goal
+
+pub loop-q-init : goal.loop-q-init
+loop-q-init c = (omega arith, refl)
+
+pub are_apart-requires : goal.are_apart-requires
+are_apart-requires c = omega arith
+
+pub returns-then-not-are_apart : goal.returns-then-not-are_apart
+returns-then-not-are_apart c = sym (every_false (λ r. apart c.args.parts.now c.args.p r) c.args.p c.loop-q.q (omega arith) (no c.are_apart.ensures c.if-not-are_apart.true-raw))
+
+pub overflow_add-q : goal.overflow_add-q
+overflow_add-q c = omega arith
+
+pub loop-q-smaller : goal.loop-q-smaller
+loop-q-smaller c = omega arith
+
+pub loop-q-preserved : goal.loop-q-preserved
+loop-q-preserved c = (omega arith, every_one (λ r. apart c.args.parts.now c.args.p r) c.loop-q.q c.loop-q.invariant.1 (yes c.are_apart.ensures c.if-not-are_apart.false-raw))
+
+pub returns : goal.returns
+returns c = sym (every_now (λ r. apart c.args.parts.now c.args.p r) c.args.p c.loop-q.q (omega arith) (omega arith) c.loop-q.invariant.1)

@@ -1,0 +1,46 @@
+-- `plan::write_bases` meets its contract. The invariant: the first q words are written. Assumes nothing.
+use Prim.Native.Nat.{◌+◌, ◌*◌, ◌-◌, ◌/◌, ◌%◌}
+use native.Mathlib.Omega.{arith}
+use Rattle.array_data.specs.lent_tables.Lent.{tables}
+use Rattle.plan.specs.Plan.{base_word, with_bases}
+use Rattle.plan.proofs.Laws.{filled_none, filled_more, filled_all}
+use Rattle.plan.proofs.write_bases.Goals as goal
+
+pub loop-q-init : goal.loop-q-init
+loop-q-init c =
+    let z = c.args in
+    (omega arith, filled_none (λ k. 352 + k) (λ words k. base_word (tables z.lengths.now z.places.now z.body.now) z.sources.now z.m words (k / 32) (k % 32)) z.plan.now)
+
+pub overflow_mul-m : goal.overflow_mul-m
+overflow_mul-m c = omega arith
+
+pub base_word-requires : goal.base_word-requires
+base_word-requires c = omega arith
+
+pub overflow_add-plan : goal.overflow_add-plan
+overflow_add-plan c = omega arith
+
+pub offset_bounds-plan-q : goal.offset_bounds-plan-q
+offset_bounds-plan-q c = omega arith
+
+pub bounds-plan-q : goal.bounds-plan-q
+bounds-plan-q c = omega arith
+
+pub overflow_add-q : goal.overflow_add-q
+overflow_add-q c = omega arith
+
+pub loop-q-smaller : goal.loop-q-smaller
+loop-q-smaller c = omega arith
+
+pub loop-q-preserved : goal.loop-q-preserved
+loop-q-preserved c =
+    let z = c.args in
+    let l = c.loop-q in
+    (omega arith, filled_more (λ k. 352 + k) (λ words k. base_word (tables z.lengths.now z.places.now z.body.now) z.sources.now z.m words (k / 32) (k % 32)) l.q z.plan.now l.plan l.invariant.1 c.base_word.ensures)
+
+pub returns : goal.returns
+unfolding with_bases
+returns c =
+    let z = c.args in
+    let l = c.loop-q in
+    filled_all (λ k. 352 + k) (λ words k. base_word (tables z.lengths.now z.places.now z.body.now) z.sources.now z.m words (k / 32) (k % 32)) l.q (32 * z.m) z.plan.now l.plan (omega arith) l.invariant.1

@@ -1,0 +1,46 @@
+-- `plan::write_joined` meets its contract. The invariant: the first i nodes have their word. Assumes nothing.
+use Prim.Native.Nat.{◌+◌, ◌*◌, ◌-◌}
+use native.Mathlib.Omega.{arith}
+use Rattle.array_data.specs.lent_tables.Lent.{tables}
+use Rattle.plan.specs.Plan.{joined_word, with_joined}
+use Rattle.plan.proofs.Laws.{filled_none, filled_more, filled_all}
+use Rattle.plan.proofs.write_joined.Goals as goal
+
+pub loop-i-init : goal.loop-i-init
+loop-i-init c =
+    let z = c.args in
+    (omega arith, filled_none (λ k. 8 * k + 7) (joined_word (tables z.lengths.now z.places.now z.body.now) z.sources.now z.m) z.plan.now)
+
+pub joined_word-requires : goal.joined_word-requires
+joined_word-requires c = omega arith
+
+pub overflow_mul-plan : goal.overflow_mul-plan
+overflow_mul-plan c = omega arith
+
+pub overflow_add-plan : goal.overflow_add-plan
+overflow_add-plan c = omega arith
+
+pub offset_bounds-plan-i : goal.offset_bounds-plan-i
+offset_bounds-plan-i c = omega arith
+
+pub bounds-plan-i : goal.bounds-plan-i
+bounds-plan-i c = omega arith
+
+pub overflow_add-i : goal.overflow_add-i
+overflow_add-i c = omega arith
+
+pub loop-i-smaller : goal.loop-i-smaller
+loop-i-smaller c = omega arith
+
+pub loop-i-preserved : goal.loop-i-preserved
+loop-i-preserved c =
+    let z = c.args in
+    let l = c.loop-i in
+    (omega arith, filled_more (λ k. 8 * k + 7) (joined_word (tables z.lengths.now z.places.now z.body.now) z.sources.now z.m) l.i z.plan.now l.plan l.invariant.1 c.joined_word.ensures)
+
+pub returns : goal.returns
+unfolding with_joined
+returns c =
+    let z = c.args in
+    let l = c.loop-i in
+    filled_all (λ k. 8 * k + 7) (joined_word (tables z.lengths.now z.places.now z.body.now) z.sources.now z.m) l.i z.n z.plan.now l.plan (omega arith) l.invariant.1

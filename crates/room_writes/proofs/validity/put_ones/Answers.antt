@@ -1,0 +1,21 @@
+-- `puts::put_ones` meets its contract. Assumes nothing.
+use native.Mathlib.Omega.{arith}
+use Rattle.room_writes.proofs.Laws.{mask_made, mask_at_lem, mask_skip}
+use lib.ListN.{length, replicate, length-replicate}
+use Rattle.room_writes.proofs.validity.put_ones.Goals as goal
+
+pub append_ones-requires : goal.append_ones-requires
+append_ones-requires c =
+    let a = c.args in
+    let d = mask_made a.plan.now a.parts.now (length a.room.now) a.write a.i a.p a.n c.mask_target.ensures c.in-At.is in
+    omega (arith, d.0.within, d.1)
+
+pub returns-in-At : goal.returns-in-At
+returns-in-At c =
+    let a = c.args in
+    mask_at_lem a.plan.now a.parts.now a.write a.i a.p a.n (replicate a.n 1) a.room.now c.mask_target.ensures c.in-At.is (length-replicate a.n 1) c.append_ones.ensures
+
+pub returns-in-Skip : goal.returns-in-Skip
+returns-in-Skip c =
+    let a = c.args in
+    mask_skip a.plan.now a.parts.now a.write a.i a.p a.n (replicate a.n 1) a.room.now c.mask_target.ensures c.in-Skip.is (length-replicate a.n 1)

@@ -1,0 +1,28 @@
+-- `puts::put_repeated` meets its contract. Assumes nothing.
+use native.Mathlib.Omega.{arith}
+use Rattle.room_writes.proofs.Laws.{alike_sized, made, put_at, put_skip, times_within}
+use lib.ListN.{length}
+use Rattle.utils.specs.Offsets.{repeated}
+use Rattle.room_writes.proofs.Bytes.{length_repeated, width_in_lem}
+use Rattle.walk.specs.State.{scaled}
+use Rattle.room_writes.proofs.variable_size.put_repeated.Goals as goal
+
+pub scale-requires : goal.scale-requires
+scale-requires c =
+    let a = c.args in
+    width_in_lem a.w (λ p q. c.requires.w_value)
+
+pub write_repeated-requires : goal.write_repeated-requires
+write_repeated-requires c =
+    let a = c.args in
+    record { n_in_bounds = omega (arith, times_within a.n a.w (made a.plan.now a.parts.now (length a.room.now) a.write a.i a.b a.o (scaled a.n a.w) (rw c.scale.ensures at c.target.ensures) c.in-At.is) (omega arith)); w_value = c.requires.w_value }
+
+pub returns-in-At : goal.returns-in-At
+returns-in-At c =
+    let a = c.args in
+    put_at a.plan.now a.parts.now a.write a.i a.b a.o (repeated a.w a.v a.n) a.room.now (omega arith) (rw c.scale.ensures at c.target.ensures) c.in-At.is (alike_sized a.n a.w (length_repeated a.w a.room.now 0 a.v a.n)) c.write_repeated.ensures
+
+pub returns-in-Skip : goal.returns-in-Skip
+returns-in-Skip c =
+    let a = c.args in
+    put_skip a.plan.now a.parts.now a.write a.i a.b a.o (repeated a.w a.v a.n) a.room.now (omega arith) (rw c.scale.ensures at c.target.ensures) c.in-Skip.is (alike_sized a.n a.w (length_repeated a.w a.room.now 0 a.v a.n))

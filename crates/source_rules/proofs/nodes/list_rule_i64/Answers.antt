@@ -1,0 +1,30 @@
+-- `node_rules::list_rule_i64` meets its contract. Assumes nothing.
+use Rattle.array_data.specs.Rules.{one_in}
+use mathlib.Core.Bool.{true}
+use native.Mathlib.Omega.{arith}
+use Rattle.array_data.specs.lent_tables.Lent.{tables, mask_of}
+use Rattle.array_data.proofs.lent_tables.Laws.{no, yes, first_in}
+use Rattle.source_rules.proofs.nodes.Laws.{list_last}
+use Rattle.source_rules.proofs.nodes.list_rule_i64.Goals as goal
+
+pub returns-then-not-one_in : goal.returns-then-not-one_in
+returns-then-not-one_in c = rw (no c.one_in.ensures c.if-not-one_in.true-raw)
+
+pub returns-then-not-mask_holds : goal.returns-then-not-mask_holds
+returns-then-not-mask_holds c = rw (yes c.one_in.ensures c.if-not-one_in.false-raw, no c.mask_holds.ensures c.if-not-mask_holds.true-raw)
+
+pub strings_i64-requires : goal.strings_i64-requires
+strings_i64-requires c =
+    let a = c.args in
+    let x = tables a.lengths.now a.places.now a.body.now in
+    let h = yes {a = one_in x a.k} c.one_in.ensures c.if-not-one_in.false-raw in
+    (omega (arith, first_in x a.k h), omega arith)
+
+pub returns : goal.returns
+returns c =
+    let a = c.args in
+    let x = tables a.lengths.now a.places.now a.body.now in
+    list_last x a.k 8 (omega arith)
+    (yes {a = one_in x a.k} c.one_in.ensures c.if-not-one_in.false-raw)
+    (yes {a = mask_of x a.k true} c.mask_holds.ensures c.if-not-mask_holds.false-raw) c.strings_i64.ensures
+    c.place-start.ensures c.place-size.ensures c.offset_of-off.ensures c.length_of-len.ensures c.length_of-child.ensures

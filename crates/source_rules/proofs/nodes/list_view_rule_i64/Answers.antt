@@ -1,0 +1,29 @@
+-- `node_rules::list_view_rule_i64` meets its contract. Assumes nothing.
+use Rattle.array_data.specs.Rules.{two_in}
+use mathlib.Core.Bool.{true}
+use native.Mathlib.Omega.{arith}
+use Rattle.array_data.specs.lent_tables.Lent.{tables, mask_of}
+use Rattle.array_data.proofs.lent_tables.Laws.{no, yes, two_one, first_in, second_in}
+use Rattle.source_rules.proofs.nodes.Laws.{list_view_last}
+use Rattle.source_rules.proofs.nodes.list_view_rule_i64.Goals as goal
+
+pub returns-then-not-two_in : goal.returns-then-not-two_in
+returns-then-not-two_in c = rw (no c.two_in.ensures c.if-not-two_in.true-raw)
+
+pub returns-then-not-mask_holds : goal.returns-then-not-mask_holds
+returns-then-not-mask_holds c = rw (yes c.two_in.ensures c.if-not-two_in.false-raw, no c.mask_holds.ensures c.if-not-mask_holds.true-raw)
+
+pub views_i64-requires : goal.views_i64-requires
+views_i64-requires c =
+    let a = c.args in
+    let x = tables a.lengths.now a.places.now a.body.now in
+    let h = yes {a = two_in x a.k} c.two_in.ensures c.if-not-two_in.false-raw in
+    (omega (arith, first_in x a.k (two_one x a.k h)), omega (arith, second_in x a.k h), omega arith)
+
+pub returns : goal.returns
+returns c =
+    let a = c.args in
+    let x = tables a.lengths.now a.places.now a.body.now in
+    list_view_last x a.k 8
+    (yes {a = two_in x a.k} c.two_in.ensures c.if-not-two_in.false-raw) (yes {a = mask_of x a.k true} c.mask_holds.ensures c.if-not-mask_holds.false-raw) c.views_i64.ensures
+    c.place-start.ensures c.place-size.ensures c.place-begin.ensures c.place-room.ensures c.offset_of-off.ensures c.length_of-len.ensures c.length_of-child.ensures
