@@ -20,10 +20,8 @@ fn number(rt: &impl Print, n: usize) -> io::Result<()> {
 }
 
 fn bytes(rt: &impl Print, s: &[u8]) -> io::Result<()> {
-    let mut i = 0;
-    while i < s.len() {
-        print!(rt; " {:02x}", wide(s[i]))?;
-        i += 1;
+    for x in s {
+        print!(rt; " {:02x}", wide(*x))?;
     }
     rt.write_all(b"\n")
 }
@@ -160,10 +158,8 @@ fn zero_at(body: &[u8; 24], k: usize) -> usize
     ensures { result ≤ 1 }
 {
     let mut x = body[k / 8];
-    let mut i = 0;
-    while i < k % 8 {
+    for _ in 0..k % 8 {
         x = x / 2;
-        i += 1;
     }
     if x % 2 == 0 {
         return 1;
@@ -177,10 +173,8 @@ fn zeros_in(body: &[u8; 24], p: usize, n: usize) -> usize
     ensures { result ≤ n }
 {
     let mut none = 0;
-    let mut i = 0;
-    while i < n {
+    for i in 0..n {
         none += zero_at(body, p + i);
-        i += 1;
     }
     none
 }
@@ -210,10 +204,8 @@ fn to_all(rt: &impl Print, a: usize, n: usize) -> io::Result<usize>
     ensures { IfOk result (λ n. n ≤ 1040) }
 {
     let mut none = 0;
-    let mut b = 0;
-    while b < 8 {
+    for b in 0..8 {
         none += pair(rt, a, b, n)?;
-        b += 1;
     }
     Ok(none)
 }
@@ -223,10 +215,8 @@ fn from_all(rt: &impl Print, n: usize) -> io::Result<usize>
     requires { n ≤ 130 }
 {
     let mut none = 0;
-    let mut a = 0;
-    while a < 8 {
+    for a in 0..8 {
         none += to_all(rt, a, n)?;
-        a += 1;
     }
     Ok(none)
 }

@@ -60,10 +60,8 @@ fn end_line(rt: &impl Print) -> io::Result<()> {
 
 // The bytes of s, in decimal.
 fn put_bytes(rt: &impl Print, s: &[u8]) -> io::Result<()> {
-    let mut i = 0;
-    while i < s.len() {
-        put(rt, wide(s[i]))?;
-        i += 1;
+    for x in s {
+        put(rt, wide(*x))?;
     }
     end_line(rt)
 }
@@ -72,10 +70,8 @@ fn put_bytes(rt: &impl Print, s: &[u8]) -> io::Result<()> {
 fn put_i32s(rt: &impl Print, s: &[u8], n: usize) -> io::Result<()>
     requires { n + n + n + n ≤ length s.now }
 {
-    let mut i = 0;
-    while i < n {
+    for i in 0..n {
         put_i32(rt, number::read_i32(s, i + i + i + i))?;
-        i += 1;
     }
     end_line(rt)
 }
@@ -254,12 +250,10 @@ fn rooms(rt: &impl Print) -> io::Result<()> {
 // How many of the 1,500 bytes that were copied to place 3 are those of s from place 7 on.
 fn agreeing(room: &[u8; 2048], s: &[u8; 2048]) -> u64 {
     let mut n = 0;
-    let mut i = 0;
-    while i < 1500 {
+    for i in 0..1500 {
         if room[i + 3] == s[i + 7] {
             n += 1;
         }
-        i += 1;
     }
     n
 }
@@ -268,10 +262,8 @@ fn agreeing(room: &[u8; 2048], s: &[u8; 2048]) -> u64 {
 fn long(rt: &impl Print) -> io::Result<()> {
     let mut s = [0u8; 2048];
     let mut room = [0u8; 2048];
-    let mut i = 0;
-    while i < 2048 {
+    for i in 0..2048 {
         s[i] = (i % 250) as u8;
-        i += 1;
     }
     number::copy::copy_bytes(&mut room, 3, &s, 7, 1500);
     rt.write_all(b"long: ")?;

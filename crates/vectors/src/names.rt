@@ -14,10 +14,8 @@ fn put(rt: &impl Print, x: u64) -> io::Result<()> {
 // The array of ids, whole.
 fn put_all(rt: &impl Print, ids: &[u8; 16]) -> io::Result<()> {
     rt.write_all(b" :")?;
-    let mut i = 0;
-    while i < 16 {
-        put(rt, wide(ids[i]))?;
-        i += 1;
+    for x in ids {
+        put(rt, wide(*x))?;
     }
     Ok(())
 }

@@ -253,10 +253,8 @@ fn put_run(rt: &impl Print, r: RowRun) -> io::Result<()> {
 
 // The runs of the rows 0 to 8.
 fn rows(rt: &impl Print, ends: &[u8], offset: u64, len: u64, width: u8) -> io::Result<()> {
-    let mut row: u64 = 0;
-    while row < 9 {
+    for row in 0u64..9 {
         put_run(rt, run::run_at(ends, offset, len, width, ColumnRow(row)))?;
-        row += 1;
     }
     line(rt)
 }

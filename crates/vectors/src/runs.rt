@@ -45,10 +45,8 @@ fn fits(last: u64, n: u64, most: u64) -> bool
 fn put_ends_i16(rt: &impl Print, ends: &[u8], m: usize) -> io::Result<()>
     requires { 2 * m ≤ length ends.now }
 {
-    let mut k = 0;
-    while k < m {
+    for k in 0..m {
         put(rt, run_ends::run_end_i16(ends, 0, PhysicalRun(k)).0)?;
-        k += 1;
     }
     Ok(())
 }
@@ -118,13 +116,11 @@ fn copies_i16(rt: &impl Print, ends: &[u8]) -> io::Result<()>
 fn finds_i16(rt: &impl Print, ends: &[u8], n: usize, last: u64) -> io::Result<()>
     requires { 2 * n ≤ length ends.now }
 {
-    let mut row: u64 = 0;
-    while row < 10 {
+    for row in 0u64..10 {
         put_found(
             rt,
             run_ends::find_run_i16(ends, 0, n, LogicalRow(row), LogicalRow(last)),
         )?;
-        row += 1;
     }
     line(rt)
 }
@@ -141,10 +137,8 @@ fn all_i16(rt: &impl Print) -> io::Result<()> {
 fn put_ends_i32(rt: &impl Print, ends: &[u8], m: usize) -> io::Result<()>
     requires { 4 * m ≤ length ends.now }
 {
-    let mut k = 0;
-    while k < m {
+    for k in 0..m {
         put(rt, run_ends::run_end_i32(ends, 0, PhysicalRun(k)).0)?;
-        k += 1;
     }
     Ok(())
 }
@@ -214,13 +208,11 @@ fn copies_i32(rt: &impl Print, ends: &[u8]) -> io::Result<()>
 fn finds_i32(rt: &impl Print, ends: &[u8], n: usize, last: u64) -> io::Result<()>
     requires { 4 * n ≤ length ends.now }
 {
-    let mut row: u64 = 0;
-    while row < 10 {
+    for row in 0u64..10 {
         put_found(
             rt,
             run_ends::find_run_i32(ends, 0, n, LogicalRow(row), LogicalRow(last)),
         )?;
-        row += 1;
     }
     line(rt)
 }
@@ -237,10 +229,8 @@ fn all_i32(rt: &impl Print) -> io::Result<()> {
 fn put_ends_i64(rt: &impl Print, ends: &[u8], m: usize) -> io::Result<()>
     requires { 8 * m ≤ length ends.now }
 {
-    let mut k = 0;
-    while k < m {
+    for k in 0..m {
         put(rt, run_ends::run_end_i64(ends, 0, PhysicalRun(k)).0)?;
-        k += 1;
     }
     Ok(())
 }
@@ -324,13 +314,11 @@ fn copies_i64(rt: &impl Print, ends: &[u8]) -> io::Result<()>
 fn finds_i64(rt: &impl Print, ends: &[u8], n: usize, last: u64) -> io::Result<()>
     requires { 8 * n ≤ length ends.now }
 {
-    let mut row: u64 = 0;
-    while row < 10 {
+    for row in 0u64..10 {
         put_found(
             rt,
             run_ends::find_run_i64(ends, 0, n, LogicalRow(row), LogicalRow(last)),
         )?;
-        row += 1;
     }
     line(rt)
 }
