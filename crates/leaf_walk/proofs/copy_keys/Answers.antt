@@ -44,4 +44,4 @@ pub returns : goal.returns
 unfolding copy_keys
 returns c =
     let a = c.args in
-    λ lengths. entries_yes (join a.plan.now a.parts.now lengths a.places.now a.body.now a.first a.source) a.i a.write a.counters.now a.room.now a.w a.slot a.n (λ at base. rebased a.w a.body.now (at + a.w * a.slot) base a.n) c.place-at.ensures c.base_of-base.ensures (c.rows_in.ensures a.plan.now a.parts.now lengths a.places.now a.first a.source) c.if-not-rows_in.false-raw c.rows_of.ensures c.scale-o.ensures (omega (arith, c.well-formed)) c.put_keys.ensures
+    λ lengths. entries_yes (join a.plan.now a.parts.now lengths a.places.now a.body.now a.first a.source) a.i a.write a.counters.now a.room.now a.w a.slot a.n (λ at base. rebased a.w a.body.now (at + a.w * a.slot) base a.n) c.place-at.ensures c.base_of-base.ensures (c.rows_in.ensures a.plan.now a.parts.now lengths a.places.now a.first a.source) c.if-not-rows_in.false-raw c.rows_of.ensures c.scale-o.ensures (omega (arith, c.well_formed)) c.put_keys.ensures

@@ -38,4 +38,4 @@ pub returns : goal.returns
 unfolding copy_numbers
 returns c =
     let a = c.args in
-    λ lengths source. entries_yes (join a.plan.now a.parts.now lengths a.places.now a.body.now a.first source) a.i a.write a.counters.now a.room.now a.w a.slot a.n (λ at base. take (a.w * a.n) (drop (at + a.w * a.slot) a.body.now)) c.place-at.ensures zero_same (c.rows_in.ensures a.plan.now a.parts.now lengths a.places.now a.first source) c.if-not-rows_in.false-raw c.rows_of.ensures c.scale-o.ensures (omega (arith, c.well-formed)) c.put_copy.ensures
+    λ lengths source. entries_yes (join a.plan.now a.parts.now lengths a.places.now a.body.now a.first source) a.i a.write a.counters.now a.room.now a.w a.slot a.n (λ at base. take (a.w * a.n) (drop (at + a.w * a.slot) a.body.now)) c.place-at.ensures zero_same (c.rows_in.ensures a.plan.now a.parts.now lengths a.places.now a.first source) c.if-not-rows_in.false-raw c.rows_of.ensures c.scale-o.ensures (omega (arith, c.well_formed)) c.put_copy.ensures

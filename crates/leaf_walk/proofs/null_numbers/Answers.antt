@@ -11,4 +11,4 @@ pub returns : goal.returns
 unfolding null_numbers
 returns c =
     let a = c.args in
-    λ lengths places body first source. wrote_at a.plan.now a.parts.now a.write a.i a.b (rows a.counters.now a.i) a.w (replicate (a.n * a.w) 0) a.counters.now a.room.now c.rows_of.ensures c.scale-o.ensures (omega (arith, c.well-formed)) c.put_zeros.ensures
+    λ lengths places body first source. wrote_at a.plan.now a.parts.now a.write a.i a.b (rows a.counters.now a.i) a.w (replicate (a.n * a.w) 0) a.counters.now a.room.now c.rows_of.ensures c.scale-o.ensures (omega (arith, c.well_formed)) c.put_zeros.ensures

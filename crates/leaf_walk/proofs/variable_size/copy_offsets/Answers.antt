@@ -45,7 +45,7 @@ pub returns-in-Fits : goal.returns-in-Fits
 returns-in-Fits c =
     let a = c.args in
     let e = c.place-at.ensures in
-    record { any_lengths = λ lengths source. sym c.in-Fits.is ∙ offsets_in (join a.plan.now a.parts.now lengths a.places.now a.body.now a.first source) a.w a.i a.slot a.n a.counters.now e (c.rows_in.ensures a.plan.now a.parts.now lengths a.places.now a.first source) c.if-not-rows_in.false-raw (add-one a.i) c.rows_of-old.ensures c.try_offsets.ensures; any_lengths_2 = λ lengths source. offsets_put (join a.plan.now a.parts.now lengths a.places.now a.body.now a.first source) a.w a.i a.slot a.n a.counters.now e (c.rows_in.ensures a.plan.now a.parts.now lengths a.places.now a.first source) a.write a.room.now (add-one a.i) c.rows_of-old.ensures c.rows_of.ensures c.grow.ensures c.scale-o.ensures (width_in_lem a.w (λ p q. c.requires.w_value)).0 (omega (arith, c.well-formed)) c.put_offsets.ensures }
+    record { any_lengths = λ lengths source. sym c.in-Fits.is ∙ offsets_in (join a.plan.now a.parts.now lengths a.places.now a.body.now a.first source) a.w a.i a.slot a.n a.counters.now e (c.rows_in.ensures a.plan.now a.parts.now lengths a.places.now a.first source) c.if-not-rows_in.false-raw (add-one a.i) c.rows_of-old.ensures c.try_offsets.ensures; any_lengths_2 = λ lengths source. offsets_put (join a.plan.now a.parts.now lengths a.places.now a.body.now a.first source) a.w a.i a.slot a.n a.counters.now e (c.rows_in.ensures a.plan.now a.parts.now lengths a.places.now a.first source) a.write a.room.now (add-one a.i) c.rows_of-old.ensures c.rows_of.ensures c.grow.ensures c.scale-o.ensures (width_in_lem a.w (λ p q. c.requires.w_value)).0 (omega (arith, c.well_formed)) c.put_offsets.ensures }
 
 pub returns-in-Over : goal.returns-in-Over
 returns-in-Over c =

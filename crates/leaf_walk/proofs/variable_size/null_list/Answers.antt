@@ -17,4 +17,4 @@ scale-o-requires c = width_in_lem c.args.w (λ p q. c.requires.w_value)
 pub returns : goal.returns
 returns c =
     let a = c.args in
-    λ lengths places body first source child. null_near (join a.plan.now a.parts.now lengths places body first source) child a.write a.w a.i a.n a.counters.now a.room.now (add-one a.i) c.if-i-ge32.false (add-one a.i) c.rows_of-last.ensures c.rows_of.ensures c.grow.ensures c.scale-o.ensures (width_in_lem a.w (λ p q. c.requires.w_value)).0 (omega (arith, c.well-formed)) c.put_repeated.ensures
+    λ lengths places body first source child. null_near (join a.plan.now a.parts.now lengths places body first source) child a.write a.w a.i a.n a.counters.now a.room.now (add-one a.i) c.if-i-ge32.false (add-one a.i) c.rows_of-last.ensures c.rows_of.ensures c.grow.ensures c.scale-o.ensures (width_in_lem a.w (λ p q. c.requires.w_value)).0 (omega (arith, c.well_formed)) c.put_repeated.ensures

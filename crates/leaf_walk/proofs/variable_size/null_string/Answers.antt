@@ -16,4 +16,4 @@ pub returns : goal.returns
 unfolding null_string
 returns c =
     let a = c.args in
-    λ lengths places body first source. wrote_next a.plan.now a.parts.now a.write a.i 1 (rows a.counters.now a.i) a.w (repeated a.w (bytes a.counters.now a.i) a.n) a.counters.now a.room.now c.rows_of.ensures c.grow.ensures c.scale-o.ensures (width_in_lem a.w (λ p q. c.requires.w_value)).0 (omega (arith, c.well-formed)) (rw c.bytes_of-last.ensures at c.put_repeated.ensures)
+    λ lengths places body first source. wrote_next a.plan.now a.parts.now a.write a.i 1 (rows a.counters.now a.i) a.w (repeated a.w (bytes a.counters.now a.i) a.n) a.counters.now a.room.now c.rows_of.ensures c.grow.ensures c.scale-o.ensures (width_in_lem a.w (λ p q. c.requires.w_value)).0 (omega (arith, c.well_formed)) (rw c.bytes_of-last.ensures at c.put_repeated.ensures)

@@ -20,7 +20,7 @@ scale-o-requires c =
 pub overflow_add-begin : goal.overflow_add-begin
 overflow_add-begin c =
     let a = c.args in
-    omega (arith, bytes_in_lem (length a.body.now) c.place-at.result a.lead (a.last - c.bytes_of-old.result) c.bytes_in.ensures c.if-not-bytes_in.false-raw, c.well-formed)
+    omega (arith, bytes_in_lem (length a.body.now) c.place-at.result a.lead (a.last - c.bytes_of-old.result) c.bytes_in.ensures c.if-not-bytes_in.false-raw, c.well_formed)
 
 pub put_copy-requires : goal.put_copy-requires
 put_copy-requires c =
@@ -33,4 +33,4 @@ set_bytes-requires c = c.requires.first_bound.1
 pub returns : goal.returns
 returns c =
     let a = c.args in
-    λ lengths source. string_yes (join a.plan.now a.parts.now lengths a.places.now a.body.now a.first source) a.i a.write a.counters.now a.room.now a.w a.from a.n a.last a.lead c.place-at.ensures c.bytes_of-old.ensures c.bytes_in.ensures c.if-not-bytes_in.false-raw c.rows_of.ensures c.grow.ensures c.scale-o.ensures (width_in_lem a.w (λ p q. c.requires.w_value)).0 (omega (arith, c.well-formed)) c.put_offsets.ensures c.put_copy.ensures c.set_bytes.ensures
+    λ lengths source. string_yes (join a.plan.now a.parts.now lengths a.places.now a.body.now a.first source) a.i a.write a.counters.now a.room.now a.w a.from a.n a.last a.lead c.place-at.ensures c.bytes_of-old.ensures c.bytes_in.ensures c.if-not-bytes_in.false-raw c.rows_of.ensures c.grow.ensures c.scale-o.ensures (width_in_lem a.w (λ p q. c.requires.w_value)).0 (omega (arith, c.well_formed)) c.put_offsets.ensures c.put_copy.ensures c.set_bytes.ensures
