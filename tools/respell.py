@@ -20,7 +20,7 @@ HEAD = re.compile(
 BINDING = re.compile(r"(?<![^\s({])(" + WORD + r")(?= :(?: |$))")
 USE = re.compile(r"\buse ([^\s;{]+)\.\{([^}]*)\}")
 # a path of modules keeps its names
-TOKEN = re.compile(r"--[^\n]*|\"(?:[^\"\\]|\\.)*\"|\buse [^\s;{]+|\bRattle\.[^\s;{]+(?=\.\{)|" + WORD)
+TOKEN = re.compile(r"--[^\n]*|\"(?:[^\"\\]|\\.)*\"|\buse [^\s;{]+|\bRattle\.(?:[^\s(){}.;,]+\.)+|" + WORD)
 GHOST = re.compile(r"ghost\s+use\b[^;]*;")
 CLAUSE = re.compile(r"\b(?:requires|ensures)\*?\s*(?:\w+\s*)?\{|\bghost\s*(?:\w+\s*(?::\s*|=\s*))?\{")
 RUST_COMMENT = re.compile(r"//[^\n]*")

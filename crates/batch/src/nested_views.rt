@@ -15,7 +15,7 @@ use nested_rows::lookups;
 use walk::plan_words;
 
 // The stretches of a child that is a list-view, for offsets and sizes of w bytes.
-#[cycle(copy_list_view_copy_node_copy_stretches)]
+#[cycle(copy_stretches)]
 fn copy_stretches(
     plan: &[u64],
     parts: &[u64],
@@ -74,7 +74,7 @@ fn copy_stretches(
 }
 
 // A list-view with offsets of w bytes, whose child is such a list-view, or of numbers or byte strings.
-#[cycle(copy_list_view_copy_node_copy_stretches)]
+#[cycle(copy_stretches)]
 fn copy_list_view(
     plan: &[u64],
     parts: &[u64],
@@ -126,7 +126,7 @@ fn copy_list_view(
 }
 
 // The rows a .. a + n - 1 of node k, which is a list-view.
-#[cycle(copy_list_view_copy_node_copy_stretches)]
+#[cycle(copy_stretches)]
 pub fn copy_node(
     plan: &[u64],
     parts: &[u64],

@@ -20,7 +20,7 @@ mod run;
 mod union;
 
 // A list-view or a list.
-#[cycle(extend_extend_data_extend_listed_extend_list_extend_list_row_extend_list_view_extend_run_extend_dense_extend_dense_row_extend_sparse)]
+#[cycle(extend)]
 fn extend_listed(
     plan: &[u64],
     parts: &[u64],
@@ -55,7 +55,7 @@ fn extend_listed(
 }
 
 // The data of a node by its format's code.
-#[cycle(extend_extend_data_extend_listed_extend_list_extend_list_row_extend_list_view_extend_run_extend_dense_extend_dense_row_extend_sparse)]
+#[cycle(extend)]
 fn extend_data(
     plan: &[u64],
     parts: &[u64],
@@ -106,7 +106,7 @@ fn extend_data(
 }
 
 // The rows a .. a + n - 1 of node i, at most `depth` levels down.
-#[cycle(extend_extend_data_extend_listed_extend_list_extend_list_row_extend_list_view_extend_run_extend_dense_extend_dense_row_extend_sparse)]
+#[cycle(extend)]
 pub fn extend(
     plan: &[u64],
     parts: &[u64],
@@ -166,7 +166,7 @@ pub fn extend(
 }
 
 // The data of a node by its format's code.
-#[cycle(extend_nulls_extend_nulls_data_extend_nulls_run_extend_nulls_dense_extend_nulls_sparse)]
+#[cycle(extend_nulls)]
 fn extend_nulls_data(
     plan: &[u64],
     parts: &[u64],
@@ -194,7 +194,7 @@ fn extend_nulls_data(
 }
 
 // n nulls of node i, at most `depth` levels down.
-#[cycle(extend_nulls_extend_nulls_data_extend_nulls_run_extend_nulls_dense_extend_nulls_sparse)]
+#[cycle(extend_nulls)]
 pub fn extend_nulls(
     plan: &[u64],
     parts: &[u64],

@@ -9,7 +9,7 @@ use utils::Extended;
 use walk::plan_words;
 
 // A list with offsets of w bytes: all its offsets, then one stretch of its child.
-#[cycle(extend_extend_data_extend_listed_extend_list_extend_list_row_extend_list_view_extend_run_extend_dense_extend_dense_row_extend_sparse)]
+#[cycle(extend)]
 pub fn extend_list(
     plan: &[u64],
     parts: &[u64],

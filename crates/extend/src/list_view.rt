@@ -11,7 +11,7 @@ use nested_rows::lookups;
 use walk::plan_words;
 
 // Row r of a list-view: its offset is the child's length before its copy.
-#[cycle(extend_extend_data_extend_listed_extend_list_extend_list_row_extend_list_view_extend_run_extend_dense_extend_dense_row_extend_sparse)]
+#[cycle(extend)]
 fn extend_list_row(
     plan: &[u64],
     parts: &[u64],
@@ -59,7 +59,7 @@ fn extend_list_row(
 }
 
 // A list-view with offsets of w bytes, row by row.
-#[cycle(extend_extend_data_extend_listed_extend_list_extend_list_row_extend_list_view_extend_run_extend_dense_extend_dense_row_extend_sparse)]
+#[cycle(extend)]
 pub fn extend_list_view(
     plan: &[u64],
     parts: &[u64],

@@ -10,7 +10,7 @@ use run_ends::{LogicalRow, Runs};
 use walk::plan_words;
 
 // A run-end node: the values of the runs of the rows, then the runs' ends.
-#[cycle(extend_extend_data_extend_listed_extend_list_extend_list_row_extend_list_view_extend_run_extend_dense_extend_dense_row_extend_sparse)]
+#[cycle(extend)]
 pub fn extend_run(
     plan: &[u64],
     parts: &[u64],
@@ -71,7 +71,7 @@ pub fn extend_run(
 }
 
 // A run-end node: where its last run is one of null orders alone, it grows by n rows; else one null value, and one run of n rows.
-#[cycle(extend_nulls_extend_nulls_data_extend_nulls_run_extend_nulls_dense_extend_nulls_sparse)]
+#[cycle(extend_nulls)]
 pub fn extend_nulls_run(
     plan: &[u64],
     parts: &[u64],

@@ -30,7 +30,7 @@ fn first_row(slot: u64) -> u64
 }
 
 // A sparse union: its ids, then the same slots of every child.
-#[cycle(extend_extend_data_extend_listed_extend_list_extend_list_row_extend_list_view_extend_run_extend_dense_extend_dense_row_extend_sparse)]
+#[cycle(extend)]
 pub fn extend_sparse(
     plan: &[u64],
     parts: &[u64],
@@ -79,7 +79,7 @@ pub fn extend_sparse(
 }
 
 // Row r of a dense union: one row of the child with its id.
-#[cycle(extend_extend_data_extend_listed_extend_list_extend_list_row_extend_list_view_extend_run_extend_dense_extend_dense_row_extend_sparse)]
+#[cycle(extend)]
 fn extend_dense_row(
     plan: &[u64],
     parts: &[u64],
@@ -118,7 +118,7 @@ fn extend_dense_row(
 }
 
 // A dense union, row by row.
-#[cycle(extend_extend_data_extend_listed_extend_list_extend_list_row_extend_list_view_extend_run_extend_dense_extend_dense_row_extend_sparse)]
+#[cycle(extend)]
 pub fn extend_dense(
     plan: &[u64],
     parts: &[u64],
@@ -156,7 +156,7 @@ pub fn extend_dense(
 }
 
 // A sparse union: n ids of its first nullable child, and n nulls in every child.
-#[cycle(extend_nulls_extend_nulls_data_extend_nulls_run_extend_nulls_dense_extend_nulls_sparse)]
+#[cycle(extend_nulls)]
 pub fn extend_nulls_sparse(
     plan: &[u64],
     parts: &[u64],
@@ -196,7 +196,7 @@ pub fn extend_nulls_sparse(
 }
 
 // A dense union: n ids and positions of its first nullable child, and n nulls in it.
-#[cycle(extend_nulls_extend_nulls_data_extend_nulls_run_extend_nulls_dense_extend_nulls_sparse)]
+#[cycle(extend_nulls)]
 pub fn extend_nulls_dense(
     plan: &[u64],
     parts: &[u64],

@@ -2,7 +2,7 @@
 use mathlib.Core.Path.{◌≡◌, refl, sym, ap, subst, ◌∙◌}
 use mathlib.Core.Bool.{Bool, true, false}
 use mathlib.Core.List.{List, [], ◌∷◌, Memᴰ}
-use Prim.Native.Nat.{ℕ, suc, ◌≤◌, ◌<◌}
+use Prim.Native.Nat.{ℕ, zero, suc, ◌≤◌, ◌<◌}
 use native.Mathlib.Omega.{arith}
 use lib.ListN.{length, get_or}
 use lib.Dec.{ltb}
@@ -239,6 +239,7 @@ module _ (x : Lent) (buffers : List ℕ) (tree : Tree) (root : Ty) (m : ℕ) (co
       let z = given.laid.tabled.keys_end i (omega (arith, given.all_nodes_lem)) w.2 in
       let v = values_both p i (λ j. (ss j).body) (omega (arith, given.all_nodes_lem)) w.2 fm.1 (λ j q. (ob j q).slots.child_rule) st in
       whole_node (suc k) (t_dictionary q p) i ss d w o l f h (λ own. (first_at i n c (d.«data» ∷ []) own, v.0)) v.1
+  whole zero t i ss d w fm o l mn f h st ob = elim w [ ]
 
   all_whole : Whole root 0 (into_builder root m columns dest)
   all_whole = whole 8 root 0 columns dest given.worded given.formed tt (omega arith) given.means given.fine given.holds (stands x buffers tree root m columns dest counters room μ given) given.obey

@@ -4,7 +4,7 @@ use mathlib.Core.Path.{◌≡◌, refl, sym, ap, subst, ◌∙◌}
 use mathlib.Core.Bool.{Bool, true, false, cond, ◌&&◌}
 use mathlib.Core.Option.{Option, none, some}
 use mathlib.Core.List.{List}
-use Prim.Native.Nat.{ℕ, suc, ◌+◌, ◌*◌, ◌/◌, ◌≤◌, ◌<◌}
+use Prim.Native.Nat.{ℕ, zero, suc, ◌+◌, ◌*◌, ◌/◌, ◌≤◌, ◌<◌}
 use native.Mathlib.Omega.{arith}
 use lib.ListN.{length, take, length-take}
 use lib.Dec.{T, eqb}
@@ -181,6 +181,7 @@ module _ (x : Lent) (buffers : List ℕ) (tree : Tree) (root : Ty) (m : ℕ) (co
   own_placed (suc k) (t_dense ids nullable f) i ss w l c mn st = placed_as_lem tree Y i mn.0.1 (holds (copied_two i l c))
   own_placed (suc k) (t_run_end v t) i ss w l c mn st = placed_as_lem tree Y i mn.0.1 (holds {b = held Y i && valid_in Y i} (rw (held_at i l) (valid_inside i l c)))
   own_placed (suc k) (t_dictionary n p) i ss w l c mn st = placed_as_lem tree Y i mn.0.1 (holds (copied_one i l c))
+  own_placed zero t i ss w l c mn st = elim w [ ]
 
   values_placed : (p : Plain) (i : ℕ) (ds : ℕ → Dictionary (PlainBody p)) → suc i < nodes_of x.plan → (dictionary_of x.plan i ≡ 0 → ⊥) → MeansPlain tree p (suc i) → Valued x m counters μ p i ds
       → T (placed tree Y (suc i))

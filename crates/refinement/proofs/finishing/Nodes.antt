@@ -2,7 +2,7 @@
 use mathlib.Core.Path.{◌≡◌, ap, subst, sym}
 use mathlib.Core.Bool.{Bool, true, false}
 use mathlib.Core.List.{List, Memᴰ}
-use Prim.Native.Nat.{ℕ, suc, ◌≤◌, ◌<◌}
+use Prim.Native.Nat.{ℕ, zero, suc, ◌≤◌, ◌<◌}
 use native.Mathlib.Decide.{dec_lt}
 use native.Mathlib.Omega.{arith}
 use lib.ListN.{length}
@@ -108,6 +108,7 @@ module _ (x : Lent) (buffers : List ℕ) (tree : Tree) (root : Ty) (m : ℕ) (co
       let z = given.laid.tabled.keys_end i (omega (arith, w.1)) w.2 in
       let v = values p i (λ j. (ss j).body) (omega (arith, given.all_nodes_lem)) w.2 mn.1 (ob 0 given.some_source).slots.child_rule st in
       with_own i (here (suc k) (t_dictionary n p) i ss w o l mn st) (λ j a b. let e : suc i ≡ j = omega arith in subst P e v)
+  from zero t i ss w fm o l mn st ob = elim w [ ]
 
   -- ALL NODES
   pub every_node : (j : ℕ) → j < nodes_of x.plan → P j

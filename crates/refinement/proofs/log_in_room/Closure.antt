@@ -50,6 +50,7 @@ module _ (plan : List ℕ) where
   worded_code (suc k) (t_dense ids nullable f) i w = let e : code_of plan i ≡ 22 = w.1 in (omega arith, omega arith)
   worded_code (suc k) (t_run_end v t) i w = let e : code_of plan i ≡ 23 = w.2 in (omega arith, omega arith)
   worded_code (suc k) (t_dictionary n p) i w = between_both 1 10 (code_of plan i) w.3
+  worded_code zero t i w = elim w [ ]
 
   -- a type whose codes are all below or all above one of its node's
   code_never : (k : ℕ) (t : Ty) (i low high : ℕ) → Worded plan k t i → low ≤ code_of plan i → code_of plan i ≤ high → (codes_to t < low → ⊥) × (high < codes_from t → ⊥)
@@ -98,6 +99,7 @@ module _ (plan : List ℕ) where
         go (suc k) (t_dense ids nullable f) w = absurd ((never (suc k) (t_dense ids nullable f) w).1 (omega arith))
         go (suc k) (t_run_end v t) w = absurd ((never (suc k) (t_run_end v t) w).1 (omega arith))
         go (suc k) (t_dictionary n p) w = absurd ((never (suc k) (t_dictionary n p) w).0 (omega arith))
+        go zero _ w = elim w [ ]
 
     typed_child : (i j : ℕ) → Typed plan lo hi i → is_union (code_of plan i) ≡ true → Child plan i j → Typed plan lo hi j
     typed_child i j (typed k t w p q) h d = go k t w
@@ -115,6 +117,7 @@ module _ (plan : List ℕ) where
         go (suc k) (t_dense ids nullable f) w = child_typed k f nullable i j p q (child_behind (λ c. Worded plan k (f c)) nullable ids i j w.4 d)
         go (suc k) (t_run_end v t) w = absurd ((never (suc k) (t_run_end v t) w).1 (omega arith))
         go (suc k) (t_dictionary n p) w = absurd ((never (suc k) (t_dictionary n p) w).0 (omega arith))
+        go zero _ w = elim w [ ]
 
     typed_values : (i : ℕ) → Typed plan lo hi i → code_of plan i ≡ 23 → Typed plan lo hi (suc (suc i))
     typed_values i (typed k t w p q) h = go k t w
@@ -132,6 +135,7 @@ module _ (plan : List ℕ) where
         go (suc k) (t_dense ids nullable f) w = absurd ((never (suc k) (t_dense ids nullable f) w).0 (omega arith))
         go (suc k) (t_run_end v t) w = let e : end_of plan i ≡ end_of plan (suc (suc i)) = w.1 in typed k t w.4 (omega arith) (omega arith)
         go (suc k) (t_dictionary n p) w = absurd ((never (suc k) (t_dictionary n p) w).0 (omega arith))
+        go zero _ w = elim w [ ]
 
     typed_among : (i : ℕ) → Typed plan lo hi i → Among lo hi i
     typed_among i (typed k t w p q) = (p, omega (arith, worded_span plan k t i w))

@@ -187,3 +187,4 @@ module _ (x : Lent) (m : ℕ) (few : m ≤ 16) (count_is : source_count x.plan �
       (dictionary_goes x m few count_is body_small n p i (λ j. (ss j).body) l o.1 (λ j h. (g j h).slots.child_rule) c μ long q.0 w.2 q.1 q.2 (λ b. f (suc i) (omega arith) (omega arith) b))
       (λ y c2 ν r. rw (skip (suc i) (end_of plan i) c2 (omega arith) l.no_keys ∙ span_none (open_dictionary x) (suc (suc i)) (end_of plan i) c2 (sym e))
       (goes_done y c2 (r.0, left_values plan i (end_of plan i) (omega arith) w.2 r.1)))))
+  opens_at zero t i u ss w o here g l q = elim w [ ]

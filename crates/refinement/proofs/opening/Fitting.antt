@@ -189,6 +189,7 @@ module _ (x : Lent) (laid : Laid x.plan) (c : List ℕ) (μ : Memory) (m : ℕ) 
       (λ y. subst Covered (sym y) (dictionary_covered v t i (λ j. (ss j).body) a o.1 (λ j d. (g j d).slots.child_rule) w.2 q.1 r e))
       (λ y. let d : h ≡ suc i = omega arith in
       absurd (n (subst (λ b. dictionary_of x.plan b ≡ 0) (sym d) a.no_keys)))
+  entries_covered zero t i u ss w o l g a q r e h p s n = elim w [ ]
 
   entries_enough : (k : ℕ) (t : Ty) (i : ℕ) (u : Bool) (ss : ℕ → Column t) → Worded x.plan k t i → Formed t → end_of x.plan i ≤ end_of x.plan 0 → ((j : ℕ) → j < m → Source t (ss j))
       → EntriesLent x t i m (λ j. (ss j).body) → Kept x.plan m t i u (λ j. (ss j).body) → Joins x.plan t i m (λ j. (ss j).body) c μ
@@ -216,6 +217,7 @@ module _ (x : Lent) (laid : Laid x.plan) (c : List ℕ) (μ : Memory) (m : ℕ) 
   entries_enough (suc k) (t_dictionary v t) i u ss w o l g a q r e =
       let z = laid.tabled.keys_end i (omega (arith, w.1)) w.2 in
       dictionary_enough v t i (λ j. (ss j).body) a o.1 (λ j d. (g j d).slots.child_rule) w.2 q.1 r (λ b. e (suc i) b (omega arith))
+  entries_enough zero t i u ss w o l g a q r e = elim w [ ]
 
   -- ---- GROUND 13 IS THE MODEL'S
 

@@ -2,7 +2,7 @@
 use mathlib.Core.Path.{◌≡◌, refl, ap, subst, ◌∙◌}
 use mathlib.Core.Bool.{Bool, true, false}
 use mathlib.Core.List.{List}
-use Prim.Native.Nat.{ℕ, suc, ◌≤◌, ◌<◌}
+use Prim.Native.Nat.{ℕ, zero, suc, ◌≤◌, ◌<◌}
 use native.Mathlib.Decide.{dec_lt}
 use native.Mathlib.Omega.{arith}
 use lib.ListN.{length}
@@ -88,6 +88,7 @@ module _ (x : Lent) (m : ℕ) (c c' : List ℕ) (μ μ' : Memory) where
 
   keyed : (k : ℕ) (n : Number) (p : Plain) (i : ℕ) → Worded plan k (t_dictionary n p) i → (i < end_of plan i) × (dictionary_of plan i ≡ 0 → ⊥)
   keyed (suc k) n p i w = (w.1, w.2)
+  keyed zero n p i w = elim w [ ]
 
   -- the values of the dictionaries from node i on are as they were
   abbrev pub ValuesSame : ℕ → Type 0

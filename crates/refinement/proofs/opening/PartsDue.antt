@@ -146,6 +146,7 @@ module _ (x : Lent) (laid : Laid x.plan) (m : ℕ) where
       let own = node_due plan i 1 true u (whole i here) e (masks_code plan (suc k) (t_dictionary n p) i w) (fixed_one (code_of plan i) w.3) in
       let vals = values_due i p (shared m ss) (keeps false m (λ s. (ss s).values)) q.1 w.2 q.0 g.plain_is in
       rw (laid.tabled.keys_end i (inside i here) w.2) (omega (arith, own, vals))
+  due_at zero t i u ss w fm here e q g = elim w [ ]
 
 begins : (plan : List ℕ) (n : ℕ) → parts_before plan 0 + n ≡ n
 unfolding parts_before

@@ -3,7 +3,7 @@ use mathlib.Core.Path.{◌≡◌, refl, ap, ◌∙◌}
 use mathlib.Core.Bool.{Bool, true, false, cond, ◌&&◌, ◌||◌}
 use mathlib.Core.Option.{none, some}
 use mathlib.Core.List.{List, [], Memᴰ}
-use Prim.Native.Nat.{ℕ, suc, ◌≤◌, ◌<◌}
+use Prim.Native.Nat.{ℕ, zero, suc, ◌≤◌, ◌<◌}
 use native.Mathlib.Omega.{arith}
 use lib.ListN.{length, get_or}
 use lib.Dec.{leb, eqb}
@@ -150,3 +150,4 @@ module _ (plan c : List ℕ) (μ : Memory) where
         )
     start_held (suc k) (t_dictionary n p) i u ss w here e q =
         start_node_lem i true u (HoldsData plan (t_dictionary n p) i) [] (new i here) e ((new i here).no_entries (fixed_offsets (code_of plan i) w.3))
+    start_held zero t i u ss w here e q = elim w [ ]

@@ -195,3 +195,4 @@ module _ (x : Lent) where
         let s = ends_in_lem plan i here.0 in
         more_use i (end_of plan i) w.1 (λ c. dictionary_uses i (shared m ss) c (omega arith) (plain_low plan p (suc i) l.plain_is) w.2 q.1)
         (more_use (suc i) (end_of plan i) (omega arith) (λ c. nothing_uses (suc i) c l.no_keys) (none_use (suc (suc i)) (end_of plan i) (sym e)))
+    dictionaries_use zero t i u ss w o here l q = elim w [ ]

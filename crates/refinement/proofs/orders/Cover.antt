@@ -44,6 +44,7 @@ pub record Laid (plan : List ℕ) : Type 0 where
 pub each_at : (p : ℕ → Bool) (l : List ℕ) → each p l ≡ true → (e : ℕ) → Memᴰ e l → p e ≡ true
 each_at p (c ∷ cs) h e (Memᴰ.head q) = rw q (and_left (p c) (each p cs) h)
 each_at p (c ∷ cs) h e (Memᴰ.tail q) = each_at p cs (and_right (p c) (each p cs) h) e q
+each_at p [] h e x'' = elim x'' [ ]
 
 pub each_all : (p : ℕ → Bool) (l : List ℕ) → ((e : ℕ) → Memᴰ e l → p e ≡ true) → each p l ≡ true
 each_all p [] h = refl
@@ -182,3 +183,4 @@ module _ (plan parts : List ℕ) (laid : Laid plan) (c : List ℕ) (μ : Memory)
       (λ a j b p q free has. let z = laid.tabled.keys_end i (omega (arith, w.1)) w.2 in
       let y : j ≡ suc i = omega arith in
       absurd (w.2 (subst (Free plan) y free)))
+  covered zero t i ss d w o l f h e = elim w [ ]

@@ -120,6 +120,7 @@ module _ (plan parts : List ℕ) (laid : Laid plan) (c : List ℕ) (μ : Memory)
       (rw (le-leb _ _ y)
       (enough k t (suc (suc i)) (λ j. (ss j).body.values) d.«data».values w.4 here.1 (omega arith) f.data_fine.values_fine h.data_are.2 (less (omega arith) (omega arith) e)))
   enough (suc k) (t_dictionary n p) i ss d w o l f h e = node_enough (suc k) (t_dictionary n p) i ss d w o f h e refl
+  enough zero t i ss d w o l f h e = elim w [ ]
 
   -- ---- GROUND 13 IS THE MODEL'S, where the parts of dictionaries' values hold what they need
 

@@ -166,3 +166,4 @@ module _ (plan parts : List ℕ) where
     own_of (suc k) (t_run_end v t) i m ss b d l w r f h = none_own i (ap buffer_count w.2)
     own_of (suc k) (t_dictionary n p) i m ss b d l w r f h =
         one_own i d (fixed_one (code_of plan i) w.3) (needed_fixed (code_of plan i) (rows c i) (bytes c i) w.3 ∙ times r w.4 ∙ sym f.keys_are) h
+    own_of zero t i m ss b d l w r f h = elim w [ ]

@@ -79,6 +79,7 @@ module _ (plan parts : List ℕ) (m : ℕ) where
   short_own (suc k) (t_dictionary n p) ss d w o f h r =
       let z = fixed_one (code_of plan 0) w.3 in
       omega (arith, r (omega arith), first_in 0 d.«data» [] h, f.data_fine.keys_are, le_mul d.len (width n) (width_pos n))
+  short_own zero t ss d w o f h r = elim w [ ]
 
   pub short : (k : ℕ) (t : Ty) (ss : ℕ → Column t) (d : Destination t) → Worded plan k t 0 → Formed t → FineNode (masks t) (FineOf t m (λ j. (ss j).body)) m ss d
       → fits plan parts t 0 d ≡ true → (0 < buffer_count (code_of plan 0) → size_of plan parts 0 1 < 2 ^ 63) → d.len < far

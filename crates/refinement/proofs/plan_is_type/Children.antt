@@ -1,7 +1,7 @@
 -- The children of a union node: where they begin, and that each has its id. Assumes nothing.
 use mathlib.Core.Path.{◌≡◌, refl, ap, sym, subst, ◌∙◌}
 use mathlib.Core.Bool.{Bool, true, false, cond}
-use mathlib.Core.List.{List, ◌∷◌, Memᴰ}
+use mathlib.Core.List.{List, [], ◌∷◌, Memᴰ}
 use Prim.Native.Nat.{ℕ, zero, suc, ◌+◌, ◌≤◌, ◌<◌}
 use native.Mathlib.Omega.{arith}
 use lib.ListN.{length}
@@ -83,6 +83,7 @@ module _ (schema : List ℕ) (first n : ℕ) (w : whole schema first n ≡ true)
             cond_no (eqb (child_at schema first n i a) (child_at schema first n i (a + suc k))) d _ (ne_eqb (child_at schema first n i a) (child_at schema first n i (a + suc k)) (λ y. omega arith))
             ∙ ap (λ z. id_from schema first n ds (child_at schema first n i (suc a)) (child_at schema first n i z)) (sym s)
             ∙ ih m
+    id_from_lem [] a h c q = elim q [ ]
 
     -- A CHILD HAS ITS ID
     pub child_id_lem : (ids : List ℕ) → ids_or (ids_of formats schema first i) ≡ ids → below schema first i ≡ length ids → (c : ℕ) → Memᴰ c ids

@@ -33,6 +33,7 @@ use Rattle.array_data.specs.node_words.Words.{child_id}
 small_ids : (ids : List ℕ) → Ids ids → (c : ℕ) → Memᴰ c ids → c < 128
 small_ids (d ∷ ds) h c (Memᴰ.head e) = omega (arith, h.0)
 small_ids (d ∷ ds) h c (Memᴰ.tail q) = small_ids ds h.2 c q
+small_ids [] h c x'' = elim x'' [ ]
 
 implied : (a b : Bool) → not a || b ≡ true → a ≡ true → b ≡ true
 implied true b h e = h
@@ -200,6 +201,7 @@ module _ (formats schema : List ℕ) (first n : ℕ) (plan : List ℕ)
             → cond y (at i a) (child_with plan e (Rattle.walk.specs.State.end_of plan i) fuel (end_of schema first n (at i a))) ≡ at i (field_of ids e)
         go true w j ih = ap (at i) (sym j ∙ ap (field_of ids) (eqb-true v e w))
         go false w j ih = ih (behind_first e v vs (ne_eqb e v (λ m. eqb-false v e w (sym m))) x)
+    node_from e q [] fuel a z y d x f = elim x [ ]
 
     -- THE CHILD THAT HAS AN ID is that of the tree
     pub child_node_lem : (e : ℕ) → Memᴰ e ids → child_of plan i e ≡ node_of (tree_of formats schema first n) i ids e

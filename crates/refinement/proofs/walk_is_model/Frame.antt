@@ -63,6 +63,7 @@ module _ (plan : List ℕ) where
   worded_span (suc k) (t_dense ids nullable f) i w = w.3
   worded_span (suc k) (t_run_end v t) i w = let s = worded_span k t (suc (suc i)) w.4 in let e : end_of plan i ≡ end_of plan (suc (suc i)) = w.1 in omega arith
   worded_span (suc k) (t_dictionary n p) i w = w.1
+  worded_span zero t i w = elim w [ ]
 
   -- ---- the children of a union
 
@@ -94,6 +95,7 @@ module _ (plan : List ℕ) where
           let q = eqb-true (id_of plan k) c e in
           record { behind = omega arith; has_id = q; span = f.2; ends = f.3; is_kid = subst (λ z. kid z k) (sym f.0 ∙ q) f.4 }
       go false e rest = field_step (omega (arith, f.2)) (rest (behind e m))
+  field_of kid nullable end [] k fuel c f l m = elim m [ ]
 
   -- two children stand apart
   pub apart_of : (kid : ℕ → ℕ → Type 0) (nullable : ℕ → Bool) (end : ℕ) (ids : List ℕ) (k fuel c d : ℕ) → Fields plan kid nullable end ids k → length ids ≤ fuel → Memᴰ c ids → Memᴰ d ids
@@ -119,6 +121,7 @@ module _ (plan : List ℕ) where
       go true qa false qb h x y p1 p2 p3 p4 = omega (arith, (y (behind d qb p)).behind)
       go false qa true qb h x y p1 p2 p3 p4 = omega (arith, (x (behind c qa m)).behind)
       go false qa false qb h x y p1 p2 p3 p4 = h (behind c qa m) (behind d qb p) p1 p2 p3 p4
+  apart_of kid nullable end [] k fuel c d f l m p ne j = elim m [ ]
 
   -- ---- still held
 
@@ -197,6 +200,7 @@ module _ (plan : List ℕ) where
           s.bytes_same ∙ h.3,
         )
     data_held (suc k) (t_dictionary n p) i d w s h = s.at_same 1 ∙ h
+    data_held zero t i d w s h = elim w [ ]
 
     pub held_same : (k : ℕ) (t : Ty) (i : ℕ) (d : Destination t) → Worded plan k t i → ((j : ℕ) → i ≤ j → j < end_of plan i → SameAt c c' μ μ' j)
         → Holds plan t i d c μ → Holds plan t i d c' μ'

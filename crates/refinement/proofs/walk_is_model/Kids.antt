@@ -1,6 +1,6 @@
 -- The children of a node by the words of a plan. Assumes nothing.
 use mathlib.Core.List.{List}
-use Prim.Native.Nat.{ℕ, suc, ◌≤◌, ◌<◌}
+use Prim.Native.Nat.{ℕ, zero, suc, ◌≤◌, ◌<◌}
 use native.Mathlib.Omega.{arith}
 use Rattle.columnar.specs.Types.{Ty, t_plain, t_view, t_list_view, t_list, t_sparse, t_dense, t_run_end, t_dictionary}
 use Rattle.columnar.specs.Kids.{Kid, kid_ty, kid_node}
@@ -18,6 +18,7 @@ worded_small plan (suc k) (t_sparse ids nullable f) i w = w.0
 worded_small plan (suc k) (t_dense ids nullable f) i w = w.0
 worded_small plan (suc k) (t_run_end v t) i w = w.0
 worded_small plan (suc k) (t_dictionary n p) i w = w.0
+worded_small plan zero t i w = elim w [ ]
 
 -- A CHILD STANDS BEHIND NODE i AND ENDS WITHIN, and its words stand for its type
 pub record KidAt (plan : List ℕ) (t : Ty) (i : ℕ) (c : Kid t) : Type 0 where
@@ -39,3 +40,4 @@ kid_at_lem plan (suc k) (t_dense ids nullable f) i w c =
     record { depth = k; is_kid = g.is_kid; behind = omega (arith, g.behind); ends = g.ends }
 kid_at_lem plan (suc k) (t_run_end v t) i w c = record { depth = k; is_kid = w.4; behind = omega arith; ends = omega (arith, w.1) }
 kid_at_lem plan (suc k) (t_dictionary n p) i w c = absurd c
+kid_at_lem plan zero t i w c = elim w [ ]

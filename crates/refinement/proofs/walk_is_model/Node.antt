@@ -59,6 +59,7 @@ module _ (plan : List ℕ) where
   masked_is (suc k) (t_dense ids nullable f) i w = le-ltb (code_of plan i) 21 (omega (arith, w.1))
   masked_is (suc k) (t_run_end v t) i w = le-ltb (code_of plan i) 21 (omega (arith, w.2))
   masked_is (suc k) (t_dictionary n p) i w = below_code 1 10 (code_of plan i) (omega arith) w.3
+  masked_is zero t i w = elim w [ ]
 
 counted_few : (b : Option (List Bool)) (z n : ℕ) → z ≤ n → counted b z ≤ n
 counted_few none z n h = omega arith

@@ -203,7 +203,7 @@ module _ (x : Join) (k w : ℕ) (t : Ty) (i m : ℕ) (ss : ℕ → Column (t_run
         let e = clip_ends ends many slot (suc n) rises some within in
         omega (arith, e.covers, many_rows (clip ends many slot (suc n)) count e.rises)
 
-    ends_are : (last : ℕ) → Rattle.run_ends_lem.specs.Clip.clipped w x.body (From + w * first) count slot (slot + suc n) last ≡ clipped w ends slot (slot + suc n) last first count
+    ends_are : (last : ℕ) → Rattle.run_ends.specs.Clip.clipped w x.body (From + w * first) count slot (slot + suc n) last ≡ clipped w ends slot (slot + suc n) last first count
     ends_are last =
         clipped_is w ends slot (slot + suc n) last x.body (From + w * first) first count
         (λ j q. entry_from w x.body From first j

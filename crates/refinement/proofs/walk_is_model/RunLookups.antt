@@ -89,7 +89,7 @@ module _ (w : ℕ) (e : ℕ → ℕ) (a b last : ℕ) where
 
   -- the ends that stand in bytes, one behind the other
   pub clipped_is : (s : List ℕ) (from k m : ℕ) → ((j : ℕ) → j < m → entry w s from j ≡ e (k + j))
-      → Rattle.run_ends_lem.specs.Clip.clipped w s from m a b last ≡ clipped w e a b last k m
-  unfolding Rattle.run_ends_lem.specs.Clip.clipped
+      → Rattle.run_ends.specs.Clip.clipped w s from m a b last ≡ clipped w e a b last k m
+  unfolding Rattle.run_ends.specs.Clip.clipped
   clipped_is s from k zero h = refl
   clipped_is s from k (suc m) h = rw (clipped_is s from k m (λ j q. h j (omega arith)), h m (omega arith)) (sym (clipped_last k m))

@@ -1,0 +1,7 @@
+-- `aggregates::find_plain` meets its contract. Assumes nothing.
+use Rattle.std.proofs.Common.{◌-◌}
+use Rattle.aggregates.proofs.find_plain.Goals as goal
+
+pub returns : goal.returns
+returns c =
+    rw (c.find_cells-cells.ensures, c.offset_at-skip.ensures)

@@ -1,0 +1,40 @@
+-- `pattern_sums::sum_some` meets its contract. Assumes nothing.
+use Rattle.std.proofs.Common.{◌≡◌, ◌+◌, ◌*◌, ◌≤◌, length, sym, subst}
+use Rattle.aggregates.specs.patterns.Parts.{Sized, bit_of, kept_in, Added}
+use Rattle.aggregates.proofs.patterns.sum_some.Goals as goal
+
+-- the last of the four
+last : (c : tie.Start) → (c.args.w ≡ 1 → ⊥) → (c.args.w ≡ 2 → ⊥) → (c.args.w ≡ 4 → ⊥) → c.args.w ≡ 8
+last c = c.requires.0
+
+pub add_some-requires : goal.add_some-requires
+add_some-requires c =
+    subst (λ w. Sized w × (c.args.at + 64 * w ≤ length c.args.body.now)) c.in-1.is c.requires
+
+pub add_some-requires-in-2 : goal.add_some-requires-in-2
+add_some-requires-in-2 c =
+    subst (λ w. Sized w × (c.args.at + 64 * w ≤ length c.args.body.now)) c.in-2.is c.requires
+
+pub add_some-requires-in-4 : goal.add_some-requires-in-4
+add_some-requires-in-4 c =
+    subst (λ w. Sized w × (c.args.at + 64 * w ≤ length c.args.body.now)) c.in-4.is c.requires
+
+pub add_some-requires-in_default : goal.add_some-requires-in_default
+add_some-requires-in_default c =
+    subst (λ w. Sized w × (c.args.at + 64 * w ≤ length c.args.body.now)) (let r = c.in_default.in_default-own.rest in last c r.0.0.1 r.0.1 r.1) c.requires
+
+pub returns-in-1 : goal.returns-in-1
+returns-in-1 c =
+    subst (λ w. Added (kept_in c.args.body.now c.args.at w c.args.m) (bit_of c.args.m) w 64 c.add_some.result) (sym c.in-1.is) c.add_some.ensures
+
+pub returns-in-2 : goal.returns-in-2
+returns-in-2 c =
+    subst (λ w. Added (kept_in c.args.body.now c.args.at w c.args.m) (bit_of c.args.m) w 64 c.add_some-in-2.result) (sym c.in-2.is) c.add_some-in-2.ensures
+
+pub returns-in-4 : goal.returns-in-4
+returns-in-4 c =
+    subst (λ w. Added (kept_in c.args.body.now c.args.at w c.args.m) (bit_of c.args.m) w 64 c.add_some-in-4.result) (sym c.in-4.is) c.add_some-in-4.ensures
+
+pub returns-in_default : goal.returns-in_default
+returns-in_default c =
+    subst (λ w. Added (kept_in c.args.body.now c.args.at w c.args.m) (bit_of c.args.m) w 64 c.add_some-in_default.result) (sym (let r = c.in_default.in_default-own.rest in last c r.0.0.1 r.0.1 r.1)) c.add_some-in_default.ensures

@@ -1,0 +1,8 @@
+-- `float_order::greater` meets its contract. Assumes nothing.
+use Rattle.frames.proofs.float_order.greater.Goals as goal
+
+pub returns-then-a-b : goal.returns-then-a-b
+returns-then-a-b c = simp c.if-a-b.true
+
+pub returns-else-a-b : goal.returns-else-a-b
+returns-else-a-b c = simp c.if-a-b.false

@@ -1,0 +1,19 @@
+-- `row_reader::unions::step_into` meets its contract. Assumes nothing.
+use mathlib.Core.Path.{sym, ap, ◌∙◌}
+use native.Mathlib.Omega.{arith}
+use Rattle.row_reader.specs.Walk.{chosen}
+use Rattle.row_reader.proofs.Laws.{into_big, into_child}
+use Rattle.row_reader.proofs.unions.step_into.Goals as goal
+
+pub returns-then-id-gt127 : goal.returns-then-id-gt127
+returns-then-id-gt127 c = into_big c.args.tree.now c.args.i c.args.id c.args.row (omega arith)
+
+pub returns-in-Node : goal.returns-in-Node
+returns-in-Node c =
+    let z = c.args in
+    ap (chosen z.tree.now z.id z.row) (sym c.in-Node.is) ∙ into_child z.tree.now z.i z.id z.row _ c.find_child.ensures (omega arith)
+
+pub returns-in-Missing : goal.returns-in-Missing
+returns-in-Missing c =
+    let z = c.args in
+    ap (chosen z.tree.now z.id z.row) (sym c.in-Missing.is) ∙ into_child z.tree.now z.i z.id z.row _ c.find_child.ensures (omega arith)
