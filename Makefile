@@ -1,4 +1,4 @@
-# The C library: the proved core (`rt staticlib` of lafkuno, lafkuno_why, lafkuno_anew) and the layer for ArrowSchema and ArrowArray
+# The C library: the proved core (`tools/staticlib` of lafkuno, lafkuno_why, lafkuno_anew) and the layer for ArrowSchema and ArrowArray
 # (bindings/c) in one static and one shared library.
 #     make                          builds target/c/liblafkuno.a and target/c/liblafkuno.so
 #     make install PREFIX=/usr      headers, libraries, lafkuno.pc, a CMake config; DESTDIR is put in front
@@ -23,7 +23,7 @@ SHARED := liblafkuno.so.$(VERSION)
 all: $(OUT)/liblafkuno.a $(OUT)/$(SHARED)
 
 $(CORE):
-	@echo "$@ is missing: run 'rt staticlib $(patsubst lib%.a,%,$(notdir $@))', or set LAFKUNO_LIB_DIR" >&2; exit 1
+	@echo "$@ is missing: run 'tools/staticlib $(patsubst lib%.a,%,$(notdir $@))', or set LAFKUNO_LIB_DIR" >&2; exit 1
 
 $(OUT)/%.o: bindings/c/%.c bindings/c/layer.h $(HEADERS)
 	@mkdir -p $(OUT)
@@ -41,11 +41,12 @@ $(OUT)/liblafkuno.a: $(OUT)/layer/arrow.o $(CORE)
 	cd $(OUT)/core && for core in $(abspath $(CORE)); do $(AR) x $$core; done
 	$(AR) rcs $@ $< $(OUT)/core/*.o
 
+# its other names are no symbolic links, which rt allows nowhere in the repository
 $(OUT)/$(SHARED): $(OUT)/layer/arrow.o $(CORE)
 	$(CC) -shared -Wl,-soname,liblafkuno.so.$(SERIES) -Wl,-z,defs $(CFLAGS) $(LDFLAGS) -o $@ $< \
 	    -Wl,--whole-archive $(CORE) -Wl,--no-whole-archive
-	ln -sf $(SHARED) $(OUT)/liblafkuno.so.$(SERIES)
-	ln -sf liblafkuno.so.$(SERIES) $(OUT)/liblafkuno.so
+	ln -f $@ $(OUT)/liblafkuno.so.$(SERIES)
+	ln -f $@ $(OUT)/liblafkuno.so
 
 # what names the places of an installation
 $(OUT)/package/%: bindings/c/%.in include/lafkuno.h FORCE

@@ -1,5 +1,5 @@
 /* Orders of i32, or of a list-view of i32, with validity or without, for counting instructions:
- *   rt staticlib lafkuno && cc -O1 -Iinclude bench/validity.c target/staticlib/liblafkuno.a -o target/validity
+ *   tools/staticlib lafkuno && cc -O1 -Iinclude bench/validity.c target/staticlib/liblafkuno.a -o target/validity
  *   valgrind --tool=callgrind --callgrind-out-file=/dev/null --toggle-collect=lafkuno_copy target/validity 1 64 64 0
  * Arguments: whether the numbers have validity, the rows of an order, how many orders, whether they stand below a list-view (2 items a row).
  * The source has 4,096 rows from offset 8. Prints rows and nulls, of the child too, and the nulls that were measured. */

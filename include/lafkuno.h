@@ -1,4 +1,4 @@
-/* Lafkuno: joins ranges of Arrow columns into one column. Link with liblafkuno.a (`rt staticlib lafkuno`).
+/* Lafkuno: joins ranges of Arrow columns into one column. Link with liblafkuno.a (`tools/staticlib lafkuno`).
  *
  * A call answers LAFKUNO_DONE or the number of a ground of refusal, and then has changed nothing. Whatever the numbers behind the
  * pointers are, a call ends, reads only the slices it is lent and writes only those that are not const.
@@ -204,7 +204,7 @@ uint32_t lafkuno_orders(const uint64_t *plan, size_t plan_len, const uint64_t *p
  * applies, the last two are 0 for any other ground, and all are 0 where nothing stops the order. The call answers the ground. It has the
  * parameters of the order, of the room its length alone, and writes nothing but the answer, which is left as it was where it is not of its
  * size. Of a single order it says 1 to 7 with no parts and no room too, since these come before 14. These calls are in liblafkuno_why.a
- * (`rt staticlib lafkuno_why`), and in the library that `make` builds. */
+ * (`tools/staticlib lafkuno_why`), and in the library that `make` builds. */
 
 /* What stops a copy.
  *   answer    LAFKUNO_WHY numbers. */
@@ -371,7 +371,7 @@ uint8_t lafkuno_ratio(const uint8_t *formats, size_t formats_len, const uint32_t
                       uint32_t first_a, uint32_t n_a, uint32_t first_b, uint32_t n_b, uint64_t start, uint64_t end,
                       uint64_t *answer, size_t answer_len);
 
-/* ---- one column written anew: these calls are in liblafkuno_anew.a (`rt staticlib lafkuno_anew`), and in the library that `make` builds */
+/* ---- one column written anew: these calls are in liblafkuno_anew.a (`tools/staticlib lafkuno_anew`), and in the library that `make` builds */
 
 /* Before any room is lent: the runs of the rows start .. end - 1 of a fixed-width column. 9, 10 and 12 for a malformed column, then 10 for
  * any other column or another target, 2 for a range outside the column, 7 for one longer than the largest run end (32767 for s); last 14

@@ -12,7 +12,7 @@ fn main() {
         let file = dir.join(format!("lib{library}.a"));
         println!("cargo:rerun-if-changed={}", file.display());
         if !file.exists() {
-            eprintln!("{} is missing: run `rt staticlib {library}` in the repository, or set LAFKUNO_LIB_DIR to its directory", file.display());
+            eprintln!("{} is missing: run `tools/staticlib {library}` in the repository, or set LAFKUNO_LIB_DIR to its directory", file.display());
             exit(1);
         }
         println!("cargo:rustc-link-lib=static={library}");

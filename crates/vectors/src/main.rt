@@ -7,10 +7,12 @@ mod names;
 mod rows;
 mod runs;
 
-fn main() {
-    leaves::all();
-    bitmaps::all();
-    runs::all();
-    names::all();
-    rows::all();
+use std::io;
+
+fn main(rt: HostRuntime) -> io::Result<()> {
+    leaves::all(&rt)?;
+    bitmaps::all(&rt)?;
+    runs::all(&rt)?;
+    names::all(&rt)?;
+    rows::all(&rt)
 }

@@ -1,165 +1,172 @@
 // Vectors of format strings: each line has a text, its code, the bytes of an entry, the ids of a union or `bad`, and the array of ids.
 use schema::union_ids;
 use schema::union_ids::Ids;
+use std::io;
 
 fn wide(x: u8) -> u64 {
     x as u64
 }
 
-fn put(x: u64) {
-    io::write_all(1, b" ");
-    io::print_decimal(1, x);
+fn put(rt: &impl Print, x: u64) -> io::Result<()> {
+    print!(rt; " {x}")
 }
 
 // The array of ids, whole.
-fn put_all(ids: &[u8; 16]) {
-    io::write_all(1, b" :");
-    let mut i = 0;
-    while i < 16 {
-        put(wide(ids[i]));
-        i += 1;
+fn put_all(rt: &impl Print, ids: &[u8; 16]) -> io::Result<()> {
+    rt.write_all(b" :")?;
+    for x in ids {
+        put(rt, wide(*x))?;
     }
+    Ok(())
 }
 
 // What a union's format says of its fields; the array is 255 where nothing is written.
-fn put_ids(s: &[u8], at: usize, len: usize) {
+fn put_ids(rt: &impl Print, s: &[u8], at: usize, len: usize) -> io::Result<()> {
     let mut ids = [255u8; 16];
     match union_ids::union_ids(s, at, len, &mut ids) {
         Ids::Count(k) => {
-            put(wide(k));
+            put(rt, wide(k))?;
         }
         Ids::Bad => {
-            io::write_all(1, b" bad");
+            rt.write_all(b" bad")?;
         }
     }
-    put_all(&ids);
+    put_all(rt, &ids)
 }
 
-fn put_code(s: &[u8], at: usize, len: usize) {
+fn put_code(rt: &impl Print, s: &[u8], at: usize, len: usize) -> io::Result<()> {
     let code = schema::formats::format_code(s, at, len);
-    put(wide(code));
-    put(wide(schema::formats::width_of(code)));
+    put(rt, wide(code))?;
+    put(rt, wide(schema::formats::width_of(code)))?;
     if schema::formats::is_union(code) {
-        put_ids(s, at, len);
+        put_ids(rt, s, at, len)?;
     }
-    io::write_all(1, b"\n");
+    rt.write_all(b"\n")
 }
 
 // A text by itself.
-fn format(s: &[u8]) {
-    io::write_all(1, s);
-    put_code(s, 0, s.len());
+fn format(rt: &impl Print, s: &[u8]) -> io::Result<()> {
+    rt.write_all(s)?;
+    put_code(rt, s, 0, s.len())
 }
 
 // A range of a text.
-fn range(s: &[u8], at: usize, len: usize) {
-    io::write_all(1, s);
-    put(at as u64);
-    put(len as u64);
-    put_code(s, at, len);
+fn range(rt: &impl Print, s: &[u8], at: usize, len: usize) -> io::Result<()> {
+    rt.write_all(s)?;
+    put(rt, at as u64)?;
+    put(rt, len as u64)?;
+    put_code(rt, s, at, len)
 }
 
-fn put_same(same: bool) {
+fn put_same(rt: &impl Print, same: bool) -> io::Result<()> {
     if same {
-        io::write_all(1, b" same\n");
+        rt.write_all(b" same\n")?;
     } else {
-        io::write_all(1, b" differ\n");
+        rt.write_all(b" differ\n")?;
     }
+    Ok(())
 }
 
 // Two ranges of a text.
-fn same(s: &[u8], at: usize, len: usize, at2: usize, len2: usize) {
-    io::write_all(1, s);
-    put(at as u64);
-    put(len as u64);
-    put(at2 as u64);
-    put(len2 as u64);
-    put_same(union_ids::same_format(s, at, len, at2, len2));
+fn same(
+    rt: &impl Print,
+    s: &[u8],
+    at: usize,
+    len: usize,
+    at2: usize,
+    len2: usize,
+) -> io::Result<()> {
+    rt.write_all(s)?;
+    put(rt, at as u64)?;
+    put(rt, len as u64)?;
+    put(rt, at2 as u64)?;
+    put(rt, len2 as u64)?;
+    put_same(rt, union_ids::same_format(s, at, len, at2, len2))
 }
 
-fn plain() {
-    format(b"c");
-    format(b"C");
-    format(b"s");
-    format(b"S");
-    format(b"i");
-    format(b"I");
-    format(b"l");
-    format(b"L");
-    format(b"f");
-    format(b"g");
-    format(b"z");
-    format(b"u");
-    format(b"Z");
-    format(b"U");
-    format(b"vz");
-    format(b"vu");
-    format(b"+vl");
-    format(b"+vL");
-    format(b"+l");
-    format(b"+L");
-    format(b"+r");
+fn plain(rt: &impl Print) -> io::Result<()> {
+    format(rt, b"c")?;
+    format(rt, b"C")?;
+    format(rt, b"s")?;
+    format(rt, b"S")?;
+    format(rt, b"i")?;
+    format(rt, b"I")?;
+    format(rt, b"l")?;
+    format(rt, b"L")?;
+    format(rt, b"f")?;
+    format(rt, b"g")?;
+    format(rt, b"z")?;
+    format(rt, b"u")?;
+    format(rt, b"Z")?;
+    format(rt, b"U")?;
+    format(rt, b"vz")?;
+    format(rt, b"vu")?;
+    format(rt, b"+vl")?;
+    format(rt, b"+vL")?;
+    format(rt, b"+l")?;
+    format(rt, b"+L")?;
+    format(rt, b"+r")
 }
 
-fn unions() {
+fn unions(rt: &impl Print) -> io::Result<()> {
     // K12; no field; the least and the largest id.
-    format(b"+ud:5,7");
-    format(b"+us:");
-    format(b"+us:0,127");
-    format(b"+us:007,7,1");
-    format(b"+us:007,8,1");
+    format(rt, b"+ud:5,7")?;
+    format(rt, b"+us:")?;
+    format(rt, b"+us:0,127")?;
+    format(rt, b"+us:007,7,1")?;
+    format(rt, b"+us:007,8,1")?;
     // Sixteen ids and seventeen.
-    format(b"+ud:0,1,2,3,4,5,6,7,8,9,10,11,12,13,14,15");
-    format(b"+ud:0,1,2,3,4,5,6,7,8,9,10,11,12,13,14,15,16");
+    format(rt, b"+ud:0,1,2,3,4,5,6,7,8,9,10,11,12,13,14,15")?;
+    format(rt, b"+ud:0,1,2,3,4,5,6,7,8,9,10,11,12,13,14,15,16")?;
     // Too large, twice, none between commas, at an end, no digits, four digits.
-    format(b"+us:128");
-    format(b"+us:1,1");
-    format(b"+us:1,,2");
-    format(b"+us:,1");
-    format(b"+us:1,");
-    format(b"+us:,");
-    format(b"+us:1 ,2");
-    format(b"+us:-1");
-    format(b"+us:a");
-    format(b"+us:0001");
+    format(rt, b"+us:128")?;
+    format(rt, b"+us:1,1")?;
+    format(rt, b"+us:1,,2")?;
+    format(rt, b"+us:,1")?;
+    format(rt, b"+us:1,")?;
+    format(rt, b"+us:,")?;
+    format(rt, b"+us:1 ,2")?;
+    format(rt, b"+us:-1")?;
+    format(rt, b"+us:a")?;
+    format(rt, b"+us:0001")
 }
 
-fn others() {
+fn others(rt: &impl Print) -> io::Result<()> {
     // Formats that are not ported, and texts that are none.
-    format(b"b");
-    format(b"n");
-    format(b"+lx");
-    format(b"+s");
-    format(b"+us");
-    format(b"+uz:1");
-    format(b"+vlx");
-    format(b"vzz");
-    format(b"");
+    format(rt, b"b")?;
+    format(rt, b"n")?;
+    format(rt, b"+lx")?;
+    format(rt, b"+s")?;
+    format(rt, b"+us")?;
+    format(rt, b"+uz:1")?;
+    format(rt, b"+vlx")?;
+    format(rt, b"vzz")?;
+    format(rt, b"")
 }
 
-fn ranges() {
-    range(b"cuZ+ud:5,7+r", 3, 7);
-    range(b"cuZ+ud:5,7+r", 1, 1);
-    range(b"cuZ+ud:5,7+r", 10, 2);
-    range(b"cuZ+ud:5,7+r", 10, 3);
-    range(b"cuZ+ud:5,7+r", 12, 0);
-    range(b"cuZ+ud:5,7+r", 13, 0);
-    range(b"cuZ+ud:5,7+r", 11, 18446744073709551615);
-    same(b"iilI", 0, 1, 1, 1);
-    same(b"iilI", 1, 1, 2, 1);
-    same(b"iilI", 1, 1, 3, 1);
-    same(b"bb", 0, 1, 1, 1);
-    same(b"+ud:5,7+ud:05,007", 0, 7, 7, 10);
-    same(b"+ud:5,7+ud:7,5", 0, 7, 7, 7);
-    same(b"+ud:5,7+us:5,7", 0, 7, 7, 7);
-    same(b"+ud:5,7+ud:5", 0, 7, 7, 6);
-    same(b"+us:+us:", 0, 4, 4, 4);
-    same(b"+us:1,1+us:1,1", 0, 7, 7, 7);
+fn ranges(rt: &impl Print) -> io::Result<()> {
+    range(rt, b"cuZ+ud:5,7+r", 3, 7)?;
+    range(rt, b"cuZ+ud:5,7+r", 1, 1)?;
+    range(rt, b"cuZ+ud:5,7+r", 10, 2)?;
+    range(rt, b"cuZ+ud:5,7+r", 10, 3)?;
+    range(rt, b"cuZ+ud:5,7+r", 12, 0)?;
+    range(rt, b"cuZ+ud:5,7+r", 13, 0)?;
+    range(rt, b"cuZ+ud:5,7+r", 11, 18446744073709551615)?;
+    same(rt, b"iilI", 0, 1, 1, 1)?;
+    same(rt, b"iilI", 1, 1, 2, 1)?;
+    same(rt, b"iilI", 1, 1, 3, 1)?;
+    same(rt, b"bb", 0, 1, 1, 1)?;
+    same(rt, b"+ud:5,7+ud:05,007", 0, 7, 7, 10)?;
+    same(rt, b"+ud:5,7+ud:7,5", 0, 7, 7, 7)?;
+    same(rt, b"+ud:5,7+us:5,7", 0, 7, 7, 7)?;
+    same(rt, b"+ud:5,7+ud:5", 0, 7, 7, 6)?;
+    same(rt, b"+us:+us:", 0, 4, 4, 4)?;
+    same(rt, b"+us:1,1+us:1,1", 0, 7, 7, 7)
 }
 
-pub fn all() {
-    plain();
-    unions();
-    others();
-    ranges();
+pub fn all(rt: &impl Print) -> io::Result<()> {
+    plain(rt)?;
+    unions(rt)?;
+    others(rt)?;
+    ranges(rt)
 }

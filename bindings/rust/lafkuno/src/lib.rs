@@ -1,6 +1,6 @@
 //! Joins ranges of Arrow columns into one column.
 //!
-//! The work is done by the proved library of this repository (`rt staticlib lafkuno`); this crate lays columns, lends memory and tells
+//! The work is done by the proved library of this repository (`tools/staticlib lafkuno`); this crate lays columns, lends memory and tells
 //! refusals by their meaning.
 //!
 //! ```

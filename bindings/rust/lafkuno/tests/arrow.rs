@@ -155,6 +155,8 @@ fn what_is_no_file_is_not_replaced() {
     ipc::write_file(&at("link.arrow"), &vans()[1]).unwrap();
     assert!(place.join("link.arrow").is_symlink());
     assert_eq!(ipc::read_files(&[&at("a.arrow")]).unwrap()[0][0].rows, 3);
+    // rt allows no link in the repository
+    std::fs::remove_file(place.join("link.arrow")).unwrap();
     // a pipe is written to, a full disk is told, and a directory stays one
     std::fs::write(place.join("o"), "copy 0 0..2").unwrap();
     let shown = run(&place, &["join", "b.arrow", "--orders", "o", "--out", "/dev/stdout"]);

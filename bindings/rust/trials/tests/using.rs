@@ -20,7 +20,10 @@ fn place() -> PathBuf {
     let _ = std::fs::remove_dir_all(&place);
     std::fs::create_dir_all(&place).unwrap();
     let examples = concat!(env!("CARGO_MANIFEST_DIR"), "/../../../examples");
-    std::os::unix::fs::symlink(examples, place.join("examples")).unwrap();
+    std::fs::create_dir(place.join("examples")).unwrap();
+    for file in std::fs::read_dir(examples).unwrap().map(|file| file.unwrap().path()) {
+        std::fs::copy(&file, place.join("examples").join(file.file_name().unwrap())).unwrap();
+    }
     for (name, fuel, town) in
         [("a.arrow", "310 305 95 102", r#""Leith" "Leith" null "Granton""#), ("b.arrow", "12 null 61", r#""Yard" "Leith" "Leith""#)]
     {

@@ -1,2 +1,0 @@
--- The laws of `leaf_ffi`.
-pub mod Laws
