@@ -10,13 +10,13 @@ use Rattle.batch.specs.Batch.{batch_node, batch_below}
 use Rattle.batch.proofs.nested_views.+copy_stretches.Given as goal
 
 abbrev pub decreases-copy_list_view : goal.decreases-copy_list_view
-decreases-copy_list_view l = a.1.1.1.1.1.1.1.1.1.1.1.1.1.0 * 3
+decreases-copy_list_view l = l.depth * 3
 
 abbrev pub decreases-copy_node : goal.decreases-copy_node
-decreases-copy_node l = a.1.1.1.1.1.1.1.1.1.1.1.1.0 * 3 + 1
+decreases-copy_node l = l.depth * 3 + 1
 
 abbrev pub decreases-copy_stretches : goal.decreases-copy_stretches
-decreases-copy_stretches l = a.1.1.1.1.1.1.1.1.1.1.1.1.1.0 * 3 + 2
+decreases-copy_stretches l = l.depth * 3 + 2
 
 abbrev pub invariant-copy_stretches-loop-r : goal.invariant-copy_stretches-loop-r
 invariant-copy_stretches-loop-r l =

@@ -43,7 +43,7 @@ offset_bounds-begins-k c = omega arith
 pub overflow_add-b : goal.overflow_add-b
 overflow_add-b c =
     let k = c.home_at-k.result in
-    let y = begin_most (get_or c.loop-r.true k 0) 4294967296 c.begin_of-b.ensures (omega arith) (c.loop-r.invariant.2.begun k (omega arith)).0 in
+    let y = begin_most (get_or c.loop-r.taken k 0) 4294967296 c.begin_of-b.ensures (omega arith) (c.loop-r.invariant.2.begun k (omega arith)).0 in
     let z = grown_most c.rows_of.result c.grow.ensures c.if-grow-ge2147483648.false in
     omega arith
 
@@ -83,7 +83,7 @@ loop-r-preserved c =
     let t = l.invariant.2.counted c.home_at-k.result (omega arith) in (
       omega arith,
       land_more h a.counters.now l.r l.invariant.1 (subst (λ v. v < 32) c.home_at-k.ensures (omega arith)) (land_fits h a.counters.now l.r c.home_at-k.ensures t c.rows_of.ensures c.grow.ensures c.if-grow-ge2147483648.false),
-      fall_more h p a.n l.r l.whole l.begins l.true l.ends l.invariant.2 (omega arith) c.home_at-k.ensures (omega arith) c.position_at-start.ensures (omega arith) refl c.begin_of-b.ensures c.still-whole.ensures c.larger.ensures refl,
+      fall_more h p a.n l.r l.whole l.begins l.taken l.ends l.invariant.2 (omega arith) c.home_at-k.ensures (omega arith) c.position_at-start.ensures (omega arith) refl c.begin_of-b.ensures c.still-whole.ensures c.larger.ensures refl,
     )
 
 pub returns : goal.returns

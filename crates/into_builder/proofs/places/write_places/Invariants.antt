@@ -1,0 +1,17 @@
+use mathlib.Core.Path.{◌≡◌}
+use mathlib.Core.List.{List, []}
+use Prim.Native.Nat.{ℕ, ◌/◌, ◌%◌, ◌-◌, ◌≤◌}
+use lib.ListN.{length}
+use Rattle.columnar.specs.Row.{seg}
+use Rattle.refinement.specs.finishing.Finish.{null_table, place_at}
+use Rattle.into_builder.specs.buffers.Names.{lent, Behind}
+use Rattle.into_builder.proofs.places.write_places.Given as goal
+
+abbrev pub invariant-loop-q : goal.invariant-loop-q
+invariant-loop-q l =
+    (l.q ≤ l.n)
+    × (length l.table ≡ length l.initial.table)
+    × ((lengths body buffers room : List ℕ) → l.nulls ≡ null_table (lent l.plan l.parts l.sources lengths l.places body) [] l.counters room 0 → Behind l.initial.table l.table 0 l.q (seg (λ a. place_at (lent l.plan l.parts l.sources lengths l.places body) buffers l.counters room l.base (a / 9) (a % 9)) 0 l.q))
+
+abbrev pub decreases-loop-q : goal.decreases-loop-q
+decreases-loop-q l = l.n - l.q
