@@ -3,7 +3,7 @@ use mathlib.Core.Path.{◌≡◌, refl, sym, ap, subst, ◌∙◌}
 use mathlib.Core.Bool.{Bool, true, false, cond, ◌&&◌}
 use mathlib.Core.Option.{Option, none, some}
 use mathlib.Core.List.{List}
-use Prim.Native.Nat.{ℕ, suc, ◌+◌, ◌*◌, ◌/◌, ◌≤◌, ◌<◌}
+use Prim.Native.Nat.{ℕ, zero, suc, ◌+◌, ◌*◌, ◌/◌, ◌≤◌, ◌<◌}
 use native.Mathlib.Omega.{arith}
 use lib.ListN.{length, take, length-take}
 use lib.Dec.{T, eqb}
@@ -184,6 +184,7 @@ module _ (x : Lent) (buffers : List ℕ) (tree : Tree) (root : Ty) (column : Col
   own_placed (suc k) (t_dense ids nullable f) i a w l c mn h = placed_as_lem tree Y i mn.0.1 (holds (copied_two i l c))
   own_placed (suc k) (t_run_end v t) i a w l c mn h = placed_as_lem tree Y i mn.0.1 (holds {b = held Y i && valid_in Y i} (rw (held_at i l) (valid_inside i l c)))
   own_placed (suc k) (t_dictionary n p) i a w l c mn h = placed_as_lem tree Y i mn.0.1 (holds (copied_one i l c))
+  own_placed zero t i a w l c mn h = elim w [ ]
 
   values_placed : (p : Plain) (i : ℕ) (a : Array (PlainBody p)) → suc i < nodes_of plan → (dictionary_of plan i ≡ 0 → ⊥) → MeansPlain tree p (suc i) → StoodValues x buffers counters μ p i a → T (placed tree Y (suc i))
   values_placed p i a l dict mn (in_parts e h) = plain_placed p (suc i) l (parts_copied plan i dict e) mn

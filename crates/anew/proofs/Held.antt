@@ -3,7 +3,7 @@ use mathlib.Core.Path.{◌≡◌, refl, sym, subst, ◌∙◌}
 use mathlib.Core.Bool.{Bool, true, false}
 use mathlib.Core.Option.{Option, none, some}
 use mathlib.Core.List.{List}
-use Prim.Native.Nat.{ℕ, suc, ◌*◌, ◌≤◌, ◌<◌}
+use Prim.Native.Nat.{ℕ, zero, suc, ◌*◌, ◌≤◌, ◌<◌}
 use native.Mathlib.Nat.{mul-one}
 use native.Mathlib.Omega.{arith}
 use lib.ListN.{length}
@@ -121,3 +121,4 @@ module _ (x : Lent) (buffers counters : List ℕ) (μ : Memory) where
           stored i 1 d.len _ d.«data» h.data_are f.data_fine.keys_are,
           kept st.0 (ss 0).body.values st.1 (ob 0 (omega arith)).slots.child_rule refl,
         )
+    held_stands zero t i ss d w l f h st ob = elim w [ ]

@@ -141,6 +141,7 @@ module _ (x : Lent) (buffers : List ℕ) (tree : Tree) (root : Ty) (column : Col
   own_few (suc k) (t_dense ids nullable f) i a w l c h = no_view i l c (λ e. omega (arith, w.1, (between_both 15 16 (code_of plan i) e).1))
   own_few (suc k) (t_run_end v t) i a w l c h = no_view i l c (λ e. omega (arith, w.2, (between_both 15 16 (code_of plan i) e).1))
   own_few (suc k) (t_dictionary n p) i a w l c h = no_view i l c (λ e. omega (arith, (between_both 1 10 (code_of plan i) w.3).1, (between_both 15 16 (code_of plan i) e).0))
+  own_few zero t i a w l c h = elim w [ ]
 
   values_few : (p : Plain) (i : ℕ) (a : Array (PlainBody p)) → suc i < nodes_of plan → (dictionary_of plan i ≡ 0 → ⊥) → MeansPlain tree p (suc i) → StoodValues x buffers counters μ p i a → place Y (suc i) 8 ≤ 32
   unfolding place_at kept_place

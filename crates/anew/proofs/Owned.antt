@@ -93,6 +93,7 @@ module _ (x : Lent) (buffers counters : List ℕ) (μ : Memory) where
   own_at (suc k) (t_run_end v t) i n b w r h = none_own i (ap buffer_count w.2)
   own_at (suc k) (t_dictionary q p) i n b w r h =
       one_own plan x.parts counters μ i b.keys (fixed_one (code_of plan i) w.3) (needed_fixed (code_of plan i) (rows counters i) (bytes counters i) w.3 ∙ entries r w.4 h.0) h.0.bytes_are
+  own_at zero t i n b w r h = elim w [ ]
 
   -- run ends
   pub own_ends : (i n w : ℕ) (s : List ℕ) → buffer_count (code_of plan i) ≡ 1 → needed plan counters i 1 ≡ rows counters i * w → rows counters i ≡ n → Stored x buffers counters μ i 1 n w s → Owns i (s ∷ [])

@@ -204,6 +204,7 @@ module _ (x : Lent) (buffers : List ℕ) (tree : Tree) (root : Ty) (column : Col
       let z = st.of_type.laid.tabled.keys_end i (omega (arith, st.of_type.all_nodes_lem)) w.2 in
       let v = values_both p i a.body.values (omega (arith, st.of_type.all_nodes_lem)) w.2 mn.1 h.body_is.1 in
       whole_node (suc k) (t_dictionary q p) i a w o l h (λ own. (first_at i n c (a.body.keys ∷ []) own, v.0)) v.1
+  whole zero t i a w o l mn h = elim w [ ]
 
   all_whole : Whole root 0 column
   all_whole = whole 8 root 0 column st.of_type.worded tt (omega arith) st.of_type.means st.stood

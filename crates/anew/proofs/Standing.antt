@@ -3,7 +3,7 @@
 use mathlib.Core.Path.{◌≡◌, refl, ap, sym, subst, ◌∙◌}
 use mathlib.Core.Bool.{Bool, true, false}
 use mathlib.Core.List.{List, Memᴰ}
-use Prim.Native.Nat.{ℕ, suc, ◌≤◌, ◌<◌}
+use Prim.Native.Nat.{ℕ, zero, suc, ◌≤◌, ◌<◌}
 use native.Mathlib.Decide.{dec_lt}
 use native.Mathlib.Omega.{arith}
 use lib.ListN.{length}
@@ -151,6 +151,7 @@ module _ (x : Lent) (buffers : List ℕ) (tree : Tree) (root : Ty) (column : Col
       let z = of_type.laid.tabled.keys_end i (omega (arith, w.1)) w.2 in
       let v = values p i a.body.values (omega (arith, of_type.all_nodes_lem)) w.2 mn.1 st.body_is.1 in
       with_own i (here (suc k) (t_dictionary n p) i a w o l mn st) (λ j b c. let e : suc i ≡ j = omega arith in subst P e v)
+  from zero t i a w fm o l mn st = elim w [ ]
 
   -- ALL NODES
   pub every_node : (j : ℕ) → j < nodes_of plan → P j
