@@ -1,0 +1,21 @@
+-- `transform::sparse_rows::is_field` meets its contract. Assumes nothing.
+use mathlib.Core.Path.{sym, ap, ◌∙◌}
+use Prim.Native.Nat.{suc}
+use native.Mathlib.Numerals.{add-one}
+use borrow.Author.Tests.{eq-eqb}
+use Rattle.schema.specs.formats.Code.{is_fixed}
+use Rattle.walk.specs.State.{dictionary_of, end_of}
+use Rattle.transform.proofs.null_ways.Laws.{never}
+use Rattle.transform.proofs.sparse_rows.is_field.Goals as goal
+
+pub returns-then-end_of-k : goal.returns-then-end_of-k
+returns-then-end_of-k c = λ z. never z
+
+pub returns-then-dictionary_of-ne0 : goal.returns-then-dictionary_of-ne0
+returns-then-dictionary_of-ne0 c = λ z. never z
+
+pub returns : goal.returns
+returns c =
+    let a = c.args in
+    let p = a.plan.now in
+    λ z. rw (eq-eqb (end_of p a.k) (suc a.k) (sym c.end_of.ensures.value ∙ c.if-end_of-k.false ∙ add-one a.k), eq-eqb (dictionary_of p a.k) 0 (sym c.dictionary_of.ensures ∙ c.if-dictionary_of-ne0.false)) (sym (c.is_fixed.ensures ∙ ap is_fixed c.code_of.ensures) ∙ z)
