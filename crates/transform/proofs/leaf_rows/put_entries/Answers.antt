@@ -44,7 +44,7 @@ returns-then-dictionary_of-eq0 c =
 pub put_keys-requires : goal.put_keys-requires
 put_keys-requires c =
     let a = c.args in
-    let both = ((c.requires.first_bound.2, omega arith, omega (arith, c.place.ensures, c.requires.n_in_bounds)), keys_wide (code_of a.plan.now a.i) c.requires.bound.0 c.requires.bound.1 c.requires.bound.2 (told is_view c.code_of.ensures c.is_view.ensures c.if-is_view.false) c.requires.bound.3) in record { i_bound = both.0; w_value = both.1.0; w_value_2 = both.1.1 }
+    let both = keys_wide (code_of a.plan.now a.i) c.requires.bound.0 c.requires.bound.1 c.requires.bound.2 (told is_view c.code_of.ensures c.is_view.ensures c.if-is_view.false) c.requires.bound.3 in record { i_bound = (c.requires.first_bound.2, omega arith, omega (arith, c.place.ensures, c.requires.n_in_bounds)); w_value = both.0; w_value_2 = both.1 }
 
 pub returns : goal.returns
 returns c =

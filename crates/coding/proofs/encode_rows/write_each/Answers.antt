@@ -1,0 +1,147 @@
+-- `run_coding::encode::write_each` meets its contract: the runs that end before row r are written. Assumes nothing.
+use mathlib.Core.Path.{◌≡◌, refl, sym, ap, ◌∙◌}
+use mathlib.Core.Logic.{⊎_elim}
+use mathlib.Core.Bool.{Bool, true, false}
+use mathlib.Core.List.{List, [], ◌∷◌, ◌++◌}
+use Prim.Native.Nat.{ℕ, ◌+◌, ◌-◌, ◌<◌}
+use native.Mathlib.Nat.{zero-add}
+use native.Mathlib.Numerals.{add-one}
+use native.Mathlib.Omega.{arith}
+use lib.ListN.{length}
+use Rattle.anew.specs.runs.Runs.{those}
+use Rattle.coding.specs.run_coding.Rows.{number_in, valid_in, change_in, last_rows}
+use Rattle.coding.specs.run_coding.Writes.{Fits, run_written, runs_written}
+use Rattle.coding.proofs.run_coding.Laws.{row_held, bit_held, change_is, count_more, count_same, those_more, those_grow, last_rows_lem, last_count, fewer_fit, runs_none, runs_more}
+use Rattle.coding.proofs.encode_rows.write_each.Goals as goal
+
+module _ (body : List ℕ) (w : ℕ) (masked : Bool) (start mask bit : ℕ) where
+  abbrev before : ℕ → List ℕ
+  before r = those (change_in body w masked start mask bit) 0 r
+
+  -- a run more is one of those that fit
+  one-fits : (e ends values goal size m k r : ℕ) → r < m → k ≡ length (before r) → Fits w masked e ends values goal size (length (last_rows body w masked start mask bit m))
+      → Fits w masked e ends values goal size (k + 1)
+  one-fits e ends values goal size m k r l ek f =
+      let g = those_grow (change_in body w masked start mask bit) r (m - 1) (omega arith) in
+      let d = last_count body w masked start mask bit m (omega arith) in
+      fewer_fit w masked e ends values goal size (length (last_rows body w masked start mask bit m)) k f (omega (arith, g, d, ek))
+
+  -- with the last run they are all
+  all-counted : (k r m : ℕ) → r + 1 ≡ m → k ≡ length (before r) → k + 1 ≡ length (last_rows body w masked start mask bit m)
+  all-counted k r m em ek =
+      let f : m - 1 ≡ r = omega arith in
+      let d = last_count body w masked start mask bit m (omega arith) in
+      let g : length (before (m - 1)) ≡ length (before r) = ap (λ n. length (before n)) f in
+      omega (arith, d, g, ek)
+
+  module _ (e ends values goal : ℕ) (room : List ℕ) where
+    abbrev written : List ℕ → List ℕ
+    written rs = runs_written body w masked start mask bit e ends values goal 0 rs room
+
+    abbrev put : ℕ → ℕ → Bool → ℕ → List ℕ → List ℕ
+    put k r a x = run_written w masked e ends values goal k r a x
+
+    -- the run that ends behind row r
+    wrote : (k r : ℕ) {a : Bool} {x : ℕ} {room1 room2 : List ℕ} → k ≡ length (before r) → a ≡ valid_in body masked mask bit r → x ≡ number_in body w start r → room1 ≡ written (before r)
+        → room2 ≡ put k r a x room1 → room2 ≡ written (before r ++ (r ∷ []))
+    wrote k r ek ea ex er h =
+        h ∙ rw (ea, ex, er, ek) (sym (runs_more body w masked start mask bit e ends values goal 0 (before r) r room ∙ ap (λ z. put z r (valid_in body masked mask bit r) (number_in body w start r) (written (before r))) (zero-add (length (before r)))))
+
+    step_yes : (k r : ℕ) {a : Bool} {x : ℕ} {room1 room2 : List ℕ} → change_in body w masked start mask bit r ≡ true → k ≡ length (before r) → a ≡ valid_in body masked mask bit r → x ≡ number_in body w start r
+        → room1 ≡ written (before r) → room2 ≡ put k r a x room1 → (k + 1 ≡ length (before (r + 1))) × (room2 ≡ written (before (r + 1)))
+    step_yes k r d ek ea ex er h = (
+      ap (λ z. z + 1) ek ∙ sym (count_more (change_in body w masked start mask bit) r d) ∙ ap (λ n. length (before n)) (sym (add-one r)),
+      wrote k r ek ea ex er h ∙ ap written (sym (those_more (change_in body w masked start mask bit) r true d)) ∙ ap (λ n. written (before n)) (sym (add-one r)),
+    )
+
+    step_no : (k r : ℕ) {room1 : List ℕ} → change_in body w masked start mask bit r ≡ false → k ≡ length (before r) → room1 ≡ written (before r)
+        → (k ≡ length (before (r + 1))) × (room1 ≡ written (before (r + 1)))
+    step_no k r d ek er = (
+      ek ∙ ap length (sym (count_same (change_in body w masked start mask bit) r d)) ∙ ap (λ n. length (before n)) (sym (add-one r)),
+      er ∙ ap written (sym (count_same (change_in body w masked start mask bit) r d)) ∙ ap (λ n. written (before n)) (sym (add-one r)),
+    )
+
+    ended : (k r m : ℕ) {a : Bool} {x : ℕ} {room1 room2 : List ℕ} → r + 1 ≡ m → k ≡ length (before r) → a ≡ valid_in body masked mask bit r → x ≡ number_in body w start r → room1 ≡ written (before r)
+        → room2 ≡ put k r a x room1 → room2 ≡ written (last_rows body w masked start mask bit m)
+    ended k r m em ek ea ex er h = wrote k r ek ea ex er h ∙ ap written (sym (last_rows_lem body w masked start mask bit r)) ∙ ap (λ n. written (last_rows body w masked start mask bit n)) (sym (add-one r) ∙ em)
+
+pub is_valid-a-requires : goal.is_valid-a-requires
+is_valid-a-requires c = let z = c.args in bit_held z.body.now z.w z.masked z.s.start z.s.mask z.s.bit z.m c.requires.le_m.3 0 c.requires.le_m.0
+
+pub number_at-x-requires : goal.number_at-x-requires
+number_at-x-requires c =
+    let z = c.args in
+    (c.requires.le_m.3.sized, row_held z.body.now z.w z.masked z.s.start z.s.mask z.s.bit z.m c.requires.le_m.3 0 c.requires.le_m.0)
+
+pub loop-r-init : goal.loop-r-init
+loop-r-init c =
+    let z = c.args in
+    (c.requires.le_m.0, omega arith, refl, c.is_valid-a.ensures, c.number_at-x.ensures, refl, sym (runs_none z.body.now z.w z.masked z.s.start z.s.mask z.s.bit z.e z.t.ends z.t.values z.t.mask z.room.now))
+
+pub overflow_add-r : goal.overflow_add-r
+overflow_add-r c = omega (arith, c.loop-r.invariant.0, c.requires.le_m.1)
+
+pub overflow_add-r-in-loop-r : goal.overflow_add-r-in-loop-r
+overflow_add-r-in-loop-r c = omega (arith, c.loop-r.invariant.0, c.requires.le_m.1)
+
+pub is_valid-b-requires : goal.is_valid-b-requires
+is_valid-b-requires c =
+    let z = c.args in
+    bit_held z.body.now z.w z.masked z.s.start z.s.mask z.s.bit z.m c.requires.le_m.3 (c.loop-r.r + 1) c.loop-r-test.true
+
+pub overflow_add-r-in-loop-r-2 : goal.overflow_add-r-in-loop-r-2
+overflow_add-r-in-loop-r-2 c = omega (arith, c.loop-r.invariant.0, c.requires.le_m.1)
+
+pub number_at-y-requires : goal.number_at-y-requires
+number_at-y-requires c =
+    let z = c.args in
+    (c.requires.le_m.3.sized, row_held z.body.now z.w z.masked z.s.start z.s.mask z.s.bit z.m c.requires.le_m.3 (c.loop-r.r + 1) c.loop-r-test.true)
+
+pub write_run-requires : goal.write_run-requires
+write_run-requires c =
+    let z = c.args in
+    let l = c.loop-r in
+    let f = one-fits z.body.now z.w z.masked z.s.start z.s.mask z.s.bit z.e z.t.ends z.t.values z.t.mask (length z.room.now) z.m l.k l.r l.invariant.0 l.invariant.5 c.requires.fits in
+    (c.requires.le_m.3.sized, c.requires.le_m.2, rw l.invariant.2 f, omega (arith, l.invariant.0, c.requires.le_m.1))
+
+pub overflow_add-k : goal.overflow_add-k
+overflow_add-k c = omega (arith, c.loop-r.invariant.1, c.loop-r.invariant.0, c.requires.le_m.1)
+
+pub overflow_add-r-in-loop-r-3 : goal.overflow_add-r-in-loop-r-3
+overflow_add-r-in-loop-r-3 c = omega (arith, c.loop-r.invariant.0, c.requires.le_m.1)
+
+pub loop-r-smaller : goal.loop-r-smaller
+loop-r-smaller c = omega (arith, c.loop-r-test.true)
+
+pub loop-r-preserved : goal.loop-r-preserved
+loop-r-preserved c =
+    let z = c.args in
+    let l = c.loop-r in
+    let d = change_is z.body.now z.w z.masked z.s.start z.s.mask z.s.bit l.r l.invariant.3 (c.is_valid-b.ensures ∙ ap (valid_in z.body.now z.masked z.s.mask z.s.bit) (add-one l.r)) l.invariant.4 (c.number_at-y.ensures ∙ ap (number_in z.body.now z.w z.s.start) (add-one l.r)) c.is_change.ensures in
+    ⊎_elim
+    (λ q.
+    let f = step_yes z.body.now z.w z.masked z.s.start z.s.mask z.s.bit z.e z.t.ends z.t.values z.t.mask z.room.now l.k l.r (d ∙ q.0.taken) l.invariant.5 l.invariant.3 l.invariant.4 l.invariant.6 q.2.ensures in
+    (c.loop-r-test.true, omega (arith, q.6, l.invariant.1), ap length q.5 ∙ omega (arith, l.invariant.2), c.is_valid-b.ensures, c.number_at-y.ensures, q.6 ∙ f.0, q.5 ∙ f.1))
+    (λ q.
+    let f = step_no z.body.now z.w z.masked z.s.start z.s.mask z.s.bit z.e z.t.ends z.t.values z.t.mask z.room.now l.k l.r (d ∙ q.0.left) l.invariant.5 l.invariant.6 in
+    (c.loop-r-test.true, omega (arith, q.2, l.invariant.1), ap length q.1 ∙ l.invariant.2, c.is_valid-b.ensures, c.number_at-y.ensures, q.2 ∙ f.0, q.1 ∙ f.1))
+    c.if-is_change.branch-raw
+
+pub write_run-requires-2 : goal.write_run-requires-2
+write_run-requires-2 c =
+    let z = c.args in
+    let l = c.loop-r in
+    let f = one-fits z.body.now z.w z.masked z.s.start z.s.mask z.s.bit z.e z.t.ends z.t.values z.t.mask (length z.room.now) z.m l.k l.r l.invariant.0 l.invariant.5 c.requires.fits in
+    (c.requires.le_m.3.sized, c.requires.le_m.2, rw l.invariant.2 f, omega (arith, l.invariant.0, c.requires.le_m.1))
+
+pub overflow_add-result : goal.overflow_add-result
+overflow_add-result c = let l = c.loop-r in omega (arith, l.invariant.1, l.invariant.0, c.requires.le_m.1)
+
+pub shape_of-room : goal.shape_of-room
+shape_of-room c = omega arith
+
+pub returns : goal.returns
+returns c =
+    let z = c.args in
+    let l = c.loop-r in
+    let q : l.r + 1 ≡ z.m = omega (arith, c.loop-r-test.false, l.invariant.0) in record { room_value = ended z.body.now z.w z.masked z.s.start z.s.mask z.s.bit z.e z.t.ends z.t.values z.t.mask z.room.now l.k l.r z.m q l.invariant.5 l.invariant.3 l.invariant.4 l.invariant.6 c.write_run-2.ensures; value = all-counted z.body.now z.w z.masked z.s.start z.s.mask z.s.bit l.k l.r z.m q l.invariant.5 }
