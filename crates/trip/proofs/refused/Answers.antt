@@ -1,0 +1,6 @@
+-- `trip::refused` meets its contract. Assumes nothing.
+use mathlib.Core.Path.{refl}
+use Rattle.trip.proofs.refused.Goals as goal
+
+pub returns : goal.returns
+returns c = (refl, refl)
