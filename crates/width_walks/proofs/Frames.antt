@@ -2,7 +2,7 @@
 use mathlib.Core.Path.{◌≡◌, sym, ap, ◌∙◌}
 use mathlib.Core.Bool.{Bool, true}
 use mathlib.Core.List.{List, []}
-use Prim.Native.Nat.{ℕ, suc, ◌*◌, ◌≤◌, ◌<◌}
+use Prim.Native.Nat.{ℕ, zero, suc, ◌*◌, ◌≤◌, ◌<◌}
 use native.Mathlib.Omega.{arith}
 use Rattle.columnar.specs.Types.{Plain, fixed, string, Ty, t_plain, t_view, t_list_view, t_list, t_sparse, t_dense, t_run_end, t_dictionary}
 use Rattle.columnar.specs.Array.{Array}
@@ -120,6 +120,7 @@ module _ (x : Lent) (buffers c c' : List ℕ) (μ μ' : Memory) where
           let z = s (suc i) (omega arith) q.1 in
           in_parts e (node_same (suc i) true (StoodPlain x buffers c μ p (suc i)) (StoodPlain x buffers c' μ' p (suc i)) b.values z (plain_same p (suc i) b.values.len b.values.body z) o)
       go (kept e v l o r) = kept e v l o r
+  data_same zero t i n b w q s h = elim w [ ]
 
   -- A COLUMN STILL STANDS
   pub stood_same : (k : ℕ) (t : Ty) (i : ℕ) (a : Column t) → Worded x.plan k t i → InParts x.plan t i → AllSame i → Stood x buffers c μ t i a → Stood x buffers c' μ' t i a
