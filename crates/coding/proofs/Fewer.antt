@@ -12,7 +12,7 @@ use borrow.Author.Tests.{le-leb, leb-true}
 use Rattle.columnar.specs.Test.{every, only_if}
 use Rattle.schema.specs.formats.Code.{is_string, is_list_view, width_of}
 use Rattle.array_data.proofs.lent_tables.Laws.{and_left, and_right}
-use Rattle.walk.specs.State.{rows, bytes}
+use Rattle.walk.specs.State.{code_of, rows, bytes}
 use Rattle.plan.specs.parts.Parts.{nodes_of, has_part, has_offsets, entry_size, needed_by, needed, size_of, part_holds, parts_hold}
 use Rattle.anew.specs.Anew.{room_ground}
 use Rattle.coding.specs.Counted.{run_counts, all_counts}
@@ -65,7 +65,7 @@ module _ (m k : ℕ) (l : k ≤ m) where
     part_less i b = go (has_part made i b)
       where
         less : needed made (all_counts m k) i b ≤ needed made (all_counts m m) i b
-        less = rw (bytes_same i) (needed_less _ _ _ _ b (rows_less i))
+        less = rw (bytes_same i) (needed_less (code_of made i) _ _ (bytes (all_counts m m) i) b (rows_less i))
 
         go : (t : Bool) → only_if t (leb (needed made (all_counts m m) i b) (size_of made parts i b)) ≡ true → only_if t (leb (needed made (all_counts m k) i b) (size_of made parts i b)) ≡ true
         go true h = le-leb _ _ (le_trans less (leb-true _ _ h))

@@ -11,10 +11,10 @@ use Rattle.coding.proofs.Fewer.{ground_less}
 use Rattle.coding.proofs.encode.runs_ground.Goals as goal
 
 pub overflow_sub-end : goal.overflow_sub-end
-overflow_sub-end c = omega (arith, c.requires.in_order)
+overflow_sub-end c = omega (arith, c.requires.in_order_lem)
 
 pub overflow_sub-end-2 : goal.overflow_sub-end-2
-overflow_sub-end-2 c = omega (arith, c.requires.in_order)
+overflow_sub-end-2 c = omega (arith, c.requires.in_order_lem)
 
 pub returns-then-room_ground-eq0 : goal.returns-then-room_ground-eq0
 returns-then-room_ground-eq0 c =

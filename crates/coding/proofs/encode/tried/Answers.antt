@@ -16,7 +16,7 @@ slots_of-s-requires c =
     (omega arith, omega (arith, c.requires.low), place_as ((place (tables_from (tables c.args.lengths.now c.args.places.now c.args.body.now) c.args.first) 0 3)) ((offset_of (tables_from (tables c.args.lengths.now c.args.places.now c.args.body.now) c.args.first) 0 + c.args.start)) (c.width_of-w.ensures ∙ ap width_of c.code_of.ensures) c.requires.place_low)
 
 pub overflow_sub-m : goal.overflow_sub-m
-overflow_sub-m c = omega (arith, c.requires.in_order)
+overflow_sub-m c = omega (arith, c.requires.in_order_lem)
 
 pub count_runs-k-requires : goal.count_runs-k-requires
 count_runs-k-requires c =

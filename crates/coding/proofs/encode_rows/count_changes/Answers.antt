@@ -71,8 +71,8 @@ loop-r-preserved c =
     let f = further z.body.now z.w z.masked z.s.start z.s.mask z.s.bit l.r l.k l.invariant.0 l.invariant.3 c.is_valid-b.ensures c.number_at-x.ensures c.number_at-y.ensures c.is_change.ensures l.invariant.4 in
     let v = valid-next z.body.now z.w z.masked z.s.start z.s.mask z.s.bit l.r c.is_valid-b.ensures in
     ⊎_elim
-    (λ q. (omega arith, omega (arith, c.loop-r-test.true), omega (arith, q.1, l.invariant.2), v, q.1 ∙ f.0 q.0.taken))
-    (λ q. (omega arith, omega (arith, c.loop-r-test.true), omega (arith, q.1, l.invariant.2), v, q.1 ∙ f.1 q.0.left))
+    (λ q. (omega arith, omega (arith, c.loop-r-test.true), omega (arith, q.k-is, l.invariant.2), v, q.k-is ∙ f.0 q.if-is_change.true))
+    (λ q. (omega arith, omega (arith, c.loop-r-test.true), omega (arith, q.k-is, l.invariant.2), v, q.k-is ∙ f.1 q.if-is_change.false))
     c.if-is_change.branch-raw
 
 pub returns : goal.returns

@@ -120,11 +120,11 @@ loop-r-preserved c =
     let d = change_is z.body.now z.w z.masked z.s.start z.s.mask z.s.bit l.r l.invariant.3 (c.is_valid-b.ensures ∙ ap (valid_in z.body.now z.masked z.s.mask z.s.bit) (add-one l.r)) l.invariant.4 (c.number_at-y.ensures ∙ ap (number_in z.body.now z.w z.s.start) (add-one l.r)) c.is_change.ensures in
     ⊎_elim
     (λ q.
-    let f = step_yes z.body.now z.w z.masked z.s.start z.s.mask z.s.bit z.e z.t.ends z.t.values z.t.mask z.room.now l.k l.r (d ∙ q.0.taken) l.invariant.5 l.invariant.3 l.invariant.4 l.invariant.6 q.2.ensures in
-    (c.loop-r-test.true, omega (arith, q.6, l.invariant.1), ap length q.5 ∙ omega (arith, l.invariant.2), c.is_valid-b.ensures, c.number_at-y.ensures, q.6 ∙ f.0, q.5 ∙ f.1))
+    let f = step_yes z.body.now z.w z.masked z.s.start z.s.mask z.s.bit z.e z.t.ends z.t.values z.t.mask z.room.now l.k l.r (d ∙ q.if-is_change.true) l.invariant.5 l.invariant.3 l.invariant.4 l.invariant.6 q.write_run.ensures in
+    (c.loop-r-test.true, omega (arith, q.k-is, l.invariant.1), ap length q.room-is ∙ omega (arith, l.invariant.2), c.is_valid-b.ensures, c.number_at-y.ensures, q.k-is ∙ f.0, q.room-is ∙ f.1))
     (λ q.
-    let f = step_no z.body.now z.w z.masked z.s.start z.s.mask z.s.bit z.e z.t.ends z.t.values z.t.mask z.room.now l.k l.r (d ∙ q.0.left) l.invariant.5 l.invariant.6 in
-    (c.loop-r-test.true, omega (arith, q.2, l.invariant.1), ap length q.1 ∙ l.invariant.2, c.is_valid-b.ensures, c.number_at-y.ensures, q.2 ∙ f.0, q.1 ∙ f.1))
+    let f = step_no z.body.now z.w z.masked z.s.start z.s.mask z.s.bit z.e z.t.ends z.t.values z.t.mask z.room.now l.k l.r (d ∙ q.if-is_change.false) l.invariant.5 l.invariant.6 in
+    (c.loop-r-test.true, omega (arith, q.k-is, l.invariant.1), ap length q.room-is ∙ l.invariant.2, c.is_valid-b.ensures, c.number_at-y.ensures, q.k-is ∙ f.0, q.room-is ∙ f.1))
     c.if-is_change.branch-raw
 
 pub write_run-requires-2 : goal.write_run-requires-2

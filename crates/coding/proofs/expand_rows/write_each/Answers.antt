@@ -12,11 +12,8 @@ use Rattle.columnar.proofs.Items.{entry_end}
 use Rattle.coding.specs.run_coding.Rows.{number_in, valid_in}
 use Rattle.coding.specs.run_coding.Writes.{Ends, end_in, left, rows_written, rows_from}
 use Rattle.coding.proofs.run_coding.Laws.{row_held, bit_held, fewer_hold}
+use Rattle.coding.proofs.expand_rows.write_each.Invariants.{At}
 use Rattle.coding.proofs.expand_rows.write_each.Goals as goal
-
-record At (body : List ℕ) (e ends x m count r q : ℕ) : Type 0 where
-  some_run : r < m → q < count
-  above : r < m → x + r < end_in body e ends q
 
 module _ (body : List ℕ) (e ends run x m count : ℕ) (h : Ends body e ends run x m count) where
   -- the end of a run that is there

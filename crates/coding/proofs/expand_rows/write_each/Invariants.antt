@@ -1,8 +1,14 @@
 use mathlib.Core.Path.{◌≡◌}
-use Prim.Native.Nat.{◌+◌, ◌-◌, ◌≤◌}
+use mathlib.Core.List.{List}
+use Prim.Native.Nat.{ℕ, ◌+◌, ◌-◌, ◌≤◌, ◌<◌}
 use lib.ListN.{length}
-use Rattle.coding.specs.run_coding.Writes.{rows_from}
+use Rattle.coding.specs.run_coding.Writes.{end_in, rows_from}
 use Rattle.coding.proofs.expand_rows.write_each.Given as goal
+
+-- row r is one of run q
+pub record At (body : List ℕ) (e ends x m count r q : ℕ) : Type 0 where
+  pub some_run : r < m → q < count
+  pub above : r < m → x + r < end_in body e ends q
 
 abbrev pub invariant-loop-r : goal.invariant-loop-r
 invariant-loop-r l =

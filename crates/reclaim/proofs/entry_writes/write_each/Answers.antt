@@ -65,11 +65,11 @@ loop-j-preserved c =
     let l = c.loop-j in
     ⊎_elim
     (λ q.
-    let f = step_yes a.body.now a.from a.w a.ranks.now a.count l.j a.to l.room a.room.now (omega arith) c.requires.2 c.requires.3 (λ i. (c.shared_slice_known-1.given i).fits) (lt-ltb _ _ q.0.taken) l.invariant.2 l.invariant.3 q.1.ensures q.3.ensures in
-    (omega arith, ap length q.6 ∙ omega (arith, l.invariant.1), q.7 ∙ f.0, q.6 ∙ f.1))
+    let f = step_yes a.body.now a.from a.w a.ranks.now a.count l.j a.to l.room a.room.now (omega arith) c.requires.2 c.requires.3 (λ i. (c.shared_slice_known-1.given i).fits) (lt-ltb _ _ q.if-ranks-j.true) l.invariant.2 l.invariant.3 q.key_at-v.ensures q.write_number.ensures in
+    (omega arith, ap length q.room-is ∙ omega (arith, l.invariant.1), q.o-is ∙ f.0, q.room-is ∙ f.1))
     (λ q.
-    let f = step_no a.body.now a.from a.w a.ranks.now a.count l.j a.to l.room a.room.now (omega arith) c.requires.2 c.requires.3 (le-ltb _ _ q.0.left) l.invariant.2 l.invariant.3 in
-    (omega arith, ap length q.1 ∙ l.invariant.1, q.2 ∙ f.0, q.1 ∙ f.1))
+    let f = step_no a.body.now a.from a.w a.ranks.now a.count l.j a.to l.room a.room.now (omega arith) c.requires.2 c.requires.3 (le-ltb _ _ q.if-ranks-j.false) l.invariant.2 l.invariant.3 in
+    (omega arith, ap length q.room-is ∙ l.invariant.1, q.o-is ∙ f.0, q.room-is ∙ f.1))
     c.if-ranks-j.branch-raw
 
 pub returns : goal.returns

@@ -33,12 +33,12 @@ pub returns-then-not-is_plain : goal.returns-then-not-is_plain
 returns-then-not-is_plain c = record { walks = (λ z. absurd (false≢true z)); counters_value = λ z. (refl, refl) }
 
 pub overflow_sub-n : goal.overflow_sub-n
-overflow_sub-n c = omega (arith, c.requires.by_index c.args.count (omega arith), c.requires.by_index 0 (omega arith), ap (rank (keys_of ((λ parts₁. join c.args.plan.now parts₁ c.args.lengths.now c.args.places.now c.args.body.now c.args.first 0) []))) (add-zero c.args.base), rank_up (keys_of ((λ parts₁. join c.args.plan.now parts₁ c.args.lengths.now c.args.places.now c.args.body.now c.args.first 0) [])) c.args.base c.args.count)
+overflow_sub-n c = omega (arith, c.requires.by_index c.args.count (omega arith), c.requires.by_index 0 (omega arith), ap (rank (keys_of ((join c.args.plan.now [] c.args.lengths.now c.args.places.now c.args.body.now c.args.first 0)))) (add-zero c.args.base), rank_up (keys_of ((join c.args.plan.now [] c.args.lengths.now c.args.places.now c.args.body.now c.args.first 0))) c.args.base c.args.count)
 
 pub write_entries-requires : goal.write_entries-requires
 write_entries-requires c =
     let p = c.is_plain.ensures (is_true _ c.if-not-is_plain.false-raw) in
-    record { first_bound = (c.requires.first_bound.0, c.requires.first_bound.1, p); count_value = risen_length ((λ parts₁. join c.args.plan.now parts₁ c.args.lengths.now c.args.places.now c.args.body.now c.args.first 0) []) c.args.base c.args.count c.args.ranks.now c.requires.by_index ((get_or c.args.ranks.now c.args.count 0 - get_or c.args.ranks.now 0 0)) refl p }
+    record { first_bound = (c.requires.first_bound.0, c.requires.first_bound.1, p); count_value = risen_length ((join c.args.plan.now [] c.args.lengths.now c.args.places.now c.args.body.now c.args.first 0)) c.args.base c.args.count c.args.ranks.now c.requires.by_index ((get_or c.args.ranks.now c.args.count 0 - get_or c.args.ranks.now 0 0)) refl p }
 
 pub returns-then-not-write_entries : goal.returns-then-not-write_entries
 returns-then-not-write_entries c = record { walks = (λ z. absurd (false≢true z)); counters_value = λ z. (refl, c.write_entries.ensures.room_value (is_false _ c.if-not-write_entries.true-raw)) }
@@ -46,8 +46,8 @@ returns-then-not-write_entries c = record { walks = (λ z. absurd (false≢true 
 pub returns : goal.returns
 returns c =
     let a = c.args in
-    let x = (λ parts₁. join c.args.plan.now parts₁ c.args.lengths.now c.args.places.now c.args.body.now c.args.first 0) a.parts.now in
-    let p = (let fact : Plain ((λ parts₁. join c.args.plan.now parts₁ c.args.lengths.now c.args.places.now c.args.body.now c.args.first 0) []) c.args.base c.args.count → Plain ((λ parts₁. join c.args.plan.now parts₁ c.args.lengths.now c.args.places.now c.args.body.now c.args.first 0) c.args.parts.now) c.args.base c.args.count = λ p₁. record { number = p₁.number; no_keys = p₁.no_keys; no_nulls = p₁.no_nulls; slots = p₁.slots; inside = p₁.inside } in fact) (c.is_plain.ensures (is_true _ c.if-not-is_plain.false-raw)) in
+    let x = (join c.args.plan.now a.parts.now c.args.lengths.now c.args.places.now c.args.body.now c.args.first 0) in
+    let p = (let fact : Plain ((join c.args.plan.now [] c.args.lengths.now c.args.places.now c.args.body.now c.args.first 0)) c.args.base c.args.count → Plain ((join c.args.plan.now c.args.parts.now c.args.lengths.now c.args.places.now c.args.body.now c.args.first 0)) c.args.base c.args.count = λ p₁. record { number = p₁.number; no_keys = p₁.no_keys; no_nulls = p₁.no_nulls; slots = p₁.slots; inside = p₁.inside } in fact) (c.is_plain.ensures (is_true _ c.if-not-is_plain.false-raw)) in
     let o = c.write_entries.ensures.stand (is_true _ c.if-not-write_entries.false-raw) in
     let had : get_or c.copied-had.result 3 0 ≡ rows a.counters.now 1 = ap (λ l. get_or l 3 0) c.copied-had.ensures in
     let w = bytes_of a.plan.now 1 in
