@@ -12,7 +12,10 @@ use Rattle.room_writes.proofs.Laws.{Made, made}
 use Rattle.room_writes.proofs.Bytes.{width_in_lem}
 use Rattle.leaf_walk.proofs.Widths.{fixed_width}
 use Rattle.reclaim.specs.used_entries.Keys.{KeyWidth}
-use Rattle.reclaim.specs.reclaim_walk.Plain.{entry_place}
+use Rattle.walk.specs.State.{Join}
+use Rattle.reclaim.specs.used_entries.Chosen.{chosen, risen}
+use Rattle.reclaim.specs.reclaim_walk.Plain.{Plain, alone, chosen_of, entry_place}
+use mathlib.Core.List.{List}
 use Rattle.reclaim.proofs.plain.write_entries.Goals as goal
 
 is_false : (b : Bool) → not b ≡ true → b ≡ false
@@ -28,27 +31,25 @@ fits : (start have n w m a : ℕ) {o k : ℕ} → o ≡ scaled have w → k ≡ 
 unfolding scaled
 fits start have n w m a eo ek d l = (omega (arith, d.at, d.within, eo), omega (arith, d.at, d.within, eo, ek, mul_comm n w))
 
-module _ (s : tie.Start) {w at off : ℕ} (ew : w ≡ bytes_of s.args.plan.now 1) (ea : at ≡ place (lent s) 1 3) (eo : off ≡ offset_of (lent s) 1) where
-  from_is : at + w * (off + s.args.base) ≡ entry_place (lent s) s.args.base
-  from_is = ap₂ (λ p q. p + q) ea (ap₂ (λ p q. p * (q + s.args.base)) ew eo)
+-- the entries that are lent, and those of them that the ranks name
+module _ (x : Join) (ranks : List ℕ) (base count : ℕ) (p : Plain x base count) {w at off : ℕ} (ew : w ≡ bytes_of x.plan 1) (ea : at ≡ place x 1 3) (eo : off ≡ offset_of x 1) where
+  key_width : KeyWidth w
+  key_width = subst KeyWidth (sym ew) (fixed_width (code_of x.plan 1) p.number)
 
-  body-in : entry_place (lent s) s.args.base + bytes_of s.args.plan.now 1 * s.args.count ≤ length s.args.body.now
-  body-in = omega (arith, s.pre.0.2.inside, mul-add (bytes_of s.args.plan.now 1) (offset_of (lent s) 1 + s.args.base) s.args.count)
+  from_is : at + w * (off + base) ≡ entry_place x base
+  from_is = ap₂ (λ p q. p + q) ea (ap₂ (λ p q. p * (q + base)) ew eo)
 
-  from_in : at + w * (off + s.args.base) ≤ length s.args.body.now
-  from_in = omega (arith, from_is, body-in)
+  body_in : entry_place x base + bytes_of x.plan 1 * count ≤ length x.body
+  body_in = omega (arith, p.inside, mul-add (bytes_of x.plan 1) (offset_of x 1 + base) count)
 
-  those_are : those s (at + w * (off + s.args.base)) w ≡ those s (entry_place (lent s) s.args.base) (bytes_of s.args.plan.now 1)
-  those_are = ap₂ (λ p q. those s p q) from_is ew
+  from_in : at + w * (off + base) ≤ length x.body
+  from_in = omega (arith, from_is, body_in)
 
-  asks : (to : ℕ) → (to + bytes_of s.args.plan.now 1 * s.args.n ≤ length s.args.room.now)
-      → KeyWidth w × (s.args.count ≤ 512) × (at + w * (off + s.args.base) + w * s.args.count ≤ length s.args.body.now) × (to + length (those s (at + w * (off + s.args.base)) w) ≤ length s.args.room.now)
-  asks to h = (
-    key_width s ew,
-    s.pre.0.1,
-    omega (arith, from_is, body-in, ap (λ v. v * s.args.count) ew),
-    omega (arith, h, ap length those_are, s.pre.1),
-  )
+  those_are : chosen x.body (at + w * (off + base)) w (risen ranks) count ≡ chosen_of x base ranks count
+  those_are = ap₂ (λ p q. chosen x.body p q (risen ranks) count) from_is ew
+
+  ends_in : at + w * (off + base) + w * count ≤ length x.body
+  ends_in = omega (arith, from_is, body_in, ap (λ v. v * count) ew)
 
 pub returns-then-not-write : goal.returns-then-not-write
 returns-then-not-write c =
@@ -56,26 +57,28 @@ returns-then-not-write c =
     record { stand = (λ z. ((λ h. absurd (false≢true (sym f ∙ h))), rw f)); room_value = λ z. absurd (false≢true (sym z)) }
 
 pub scale-requires : goal.scale-requires
-scale-requires c = width_in_lem c.width_at-w.result ((let fact : {w : ℕ} → w ≡ bytes_of c.args.plan.now 1 → KeyWidth w = λ e₁. subst KeyWidth (sym e₁) (fixed_width (code_of c.args.plan.now 1) c.requires.first_bound.2.number) in fact) c.width_at-w.ensures)
+scale-requires c = width_in_lem c.width_at-w.result (subst KeyWidth (sym c.width_at-w.ensures) (fixed_width (code_of c.args.plan.now 1) c.requires.first_bound.2.number))
 
 pub scale-requires-2 : goal.scale-requires-2
-scale-requires-2 c = width_in_lem c.width_at-w.result ((let fact : {w : ℕ} → w ≡ bytes_of c.args.plan.now 1 → KeyWidth w = λ e₁. subst KeyWidth (sym e₁) (fixed_width (code_of c.args.plan.now 1) c.requires.first_bound.2.number) in fact) c.width_at-w.ensures)
+scale-requires-2 c = width_in_lem c.width_at-w.result (subst KeyWidth (sym c.width_at-w.ensures) (fixed_width (code_of c.args.plan.now 1) c.requires.first_bound.2.number))
 
 pub overflow_add-slot : goal.overflow_add-slot
 overflow_add-slot c = omega (arith, c.requires.first_bound.2.slots, c.offset_of.ensures)
 
 pub overflow_mul-from : goal.overflow_mul-from
-overflow_mul-from c = omega (arith, from_in c c.width_at-w.ensures c.place.ensures c.offset_of.ensures)
+overflow_mul-from c = omega (arith, from_in (alone c.args.plan.now c.args.lengths.now c.args.places.now c.args.body.now c.args.first) c.args.ranks.now c.args.base c.args.count c.requires.first_bound.2 c.width_at-w.ensures c.place.ensures c.offset_of.ensures)
 
 pub overflow_add-from : goal.overflow_add-from
-overflow_add-from c = omega (arith, from_in c c.width_at-w.ensures c.place.ensures c.offset_of.ensures)
+overflow_add-from c = omega (arith, from_in (alone c.args.plan.now c.args.lengths.now c.args.places.now c.args.body.now c.args.first) c.args.ranks.now c.args.base c.args.count c.requires.first_bound.2 c.width_at-w.ensures c.place.ensures c.offset_of.ensures)
 
 pub write_used-requires : goal.write_used-requires
 write_used-requires c =
     let a = c.args in
     let m = made a.plan.now a.parts.now (length a.room.now) true 1 1 c.scale.result c.scale-2.result c.target.ensures c.in-At.is in
     let f = fits (start_of a.plan.now a.parts.now 1 1) a.have a.n c.width_at-w.result (length a.room.now) _ c.scale.ensures c.scale-2.ensures m (omega (arith, c.well_formed)) in
-    asks c c.width_at-w.ensures c.place.ensures c.offset_of.ensures _ (omega (arith, f.0, f.1, ap (λ v. v * a.n) c.width_at-w.ensures))
+    let z = those_are (alone c.args.plan.now c.args.lengths.now c.args.places.now c.args.body.now c.args.first) c.args.ranks.now c.args.base c.args.count c.requires.first_bound.2 c.width_at-w.ensures c.place.ensures c.offset_of.ensures in
+    let to : start_of a.plan.now a.parts.now 1 1 + a.have * c.width_at-w.result + bytes_of a.plan.now 1 * a.n ≤ length a.room.now = omega (arith, f.1, ap (λ v. v * a.n) c.width_at-w.ensures) in
+    (key_width (alone c.args.plan.now c.args.lengths.now c.args.places.now c.args.body.now c.args.first) c.args.ranks.now c.args.base c.args.count c.requires.first_bound.2 c.width_at-w.ensures c.place.ensures c.offset_of.ensures, c.requires.first_bound.1, ends_in (alone c.args.plan.now c.args.lengths.now c.args.places.now c.args.body.now c.args.first) c.args.ranks.now c.args.base c.args.count c.requires.first_bound.2 c.width_at-w.ensures c.place.ensures c.offset_of.ensures, omega (arith, to, ap length z, c.requires.count_value))
 
 pub returns-in-At : goal.returns-in-At
 returns-in-At c =
@@ -86,7 +89,7 @@ returns-in-At c =
     let h = is_true a.write c.if-not-write.false-raw in record {
       stand = (λ z. (
         (λ y. omega (arith, f.1, ap (λ v. a.have * v) e, ap (λ v. v * a.n) e)),
-        rw h (c.write_used.ensures ∙ ap₂ (λ p b. splice p b a.room.now) (f.0 ∙ ap (λ v. start_of a.plan.now a.parts.now 1 1 + a.have * v) e) (those_are c e c.place.ensures c.offset_of.ensures)),
+        rw h (c.write_used.ensures ∙ ap₂ (λ p b. splice p b a.room.now) (f.0 ∙ ap (λ v. start_of a.plan.now a.parts.now 1 1 + a.have * v) e) (those_are (alone c.args.plan.now c.args.lengths.now c.args.places.now c.args.body.now c.args.first) c.args.ranks.now c.args.base c.args.count c.requires.first_bound.2 c.width_at-w.ensures c.place.ensures c.offset_of.ensures)),
       ));
       room_value = λ z. absurd (false≢true (sym z));
     }
