@@ -11,4 +11,4 @@ returns-then-not-has_part c =
 pub returns : goal.returns
 returns c =
     let a = c.args in
-    part_size a.plan.now a.counters.now a.parts.now a.i a.b c.has_part.ensures c.if-not-has_part.false-raw c.code_of-code.ensures c.rows_of-rows.ensures c.bytes_of-len.ensures c.buffer_bytes.ensures c.type_size.ensures c.requires.2 refl
+    part_size a.plan.now a.counters.now a.parts.now a.i a.b c.has_part.ensures c.if-not-has_part.false-raw c.code_of-code.ensures c.rows_of-rows.ensures c.bytes_of-len.ensures c.buffer_bytes.ensures c.size_of.ensures c.requires.2 refl

@@ -12,4 +12,4 @@ returns-then-part_holds c =
 pub returns : goal.returns
 returns c =
     let a = c.args in
-    part_over a.plan.now a.counters.now a.parts.now (a.r + a.n) a.i a.b c.part_holds.ensures c.if-part_holds.false (c.bytes_due.ensures a.parts.now) c.type_size.ensures
+    part_over a.plan.now a.counters.now a.parts.now (a.r + a.n) a.i a.b c.part_holds.ensures c.if-part_holds.false (c.bytes_due.ensures a.parts.now) c.size_of.ensures
