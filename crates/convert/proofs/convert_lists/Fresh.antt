@@ -4,7 +4,7 @@ use mathlib.Core.Path.{◌≡◌, refl, ap, ◌∙◌}
 use mathlib.Core.Bool.{Bool, true, false, cond, ◌&&◌, ◌||◌}
 use mathlib.Core.Option.{none, some}
 use mathlib.Core.List.{List, []}
-use Prim.Native.Nat.{ℕ, suc, ◌<◌}
+use Prim.Native.Nat.{ℕ, zero, suc, ◌<◌}
 use native.Mathlib.Omega.{arith}
 use lib.ListN.{get_or}
 use lib.Dec.{ltb, eqb}
@@ -111,6 +111,7 @@ module _ (plan c : List ℕ) (μ : Memory) (no_gaps : get_or plan 867 0 ≡ 0) w
           (new i here).first_gap ∙ no_gap i,
         )
     fresh_data_lem (suc k) (t_dictionary n p) i b w here e = (new i here).no_entries (fixed_offsets (code_of plan i) w.3)
+    fresh_data_lem zero t i b w here e = elim w [ ]
 
     -- THE DESTINATION WITH NO ROWS is held, from node i on
     pub fresh_held : (k : ℕ) (t : Ty) (i : ℕ) (a : Column t) → Worded plan k t i → Here plan i → Exact plan t i a → Holds plan t i (fresh t a) c μ
