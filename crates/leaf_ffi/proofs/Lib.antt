@@ -1,0 +1,2 @@
+-- The laws of `leaf_ffi`.
+pub mod Laws
