@@ -29,6 +29,15 @@ CAMEL = re.compile(r"[a-z0-9][A-Z]")
 # an old name and the spelling that keeps it apart from another
 CLASHES = {"batchWalk": "batch_walk_of", "leafRow": "leaf_row_of", "openWalk": "open_walk_of", "reclaimWalk": "reclaim_walk_of", "rowPlan": "row_plan_of", "nullCount": "null_count_of", "same-list": "same_list_lem", "is-nan": "is_nan_lem"}
 
+# names that are declared within a module, over several lines or in a file of lemmas called Answers, which the search below does not see
+MORE = """
+    all-counted all-good all-within-as answered-is columns-ground dense-data dense-over drop-none end-held examples-are fine-zeros
+    gap-one its-cell k1-one k1-runs k1-search kept-start lists-are lists-body marks-used mean-answer mean-ground mean-none mean-
+    outside mean-range mean-type more-in no-numbers no-numbers-a no-numbers-b no-row-a no-row-b none-range none-small none-some not-
+    all-obey not-all-same not-all-typed not-all-within not-few not-obeying not-small not-stop not-two numbers-a numbers-b one-fits
+    one-flat one-good over-held positions-same root-counters root-shows run-clash run-flat same-range sources-rules step-to string-
+    clash told-by valid-next view-is wide-one within-as wrote-two
+""".split()
 # words that are tactics, and may be no name in a clause or in specs/
 TACTICS = {"ground": "refusal"}
 
@@ -57,7 +66,7 @@ def is_proof(path):
 
 
 def declared():
-    names, facts, functions = set(), set(), set()
+    names, facts, functions = set(MORE), set(), set(MORE)
     for path in own_texts():
         text = re.sub(r"--[^\n]*", "", read(path))
         if is_proof(path):
