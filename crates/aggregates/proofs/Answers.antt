@@ -36,13 +36,13 @@ total_in y z e = go (fits z) e
     go false q = let w : ◌≡◌ {A = ℕ} 0 1 = cc in absurd (omega arith)
 
 module _ (count : ℕ) (z : ℤ) where
-  pub mean-outside : fits z ≡ false → mean.Refused 15 ≡ mean_by count z
+  pub mean_outside : fits z ≡ false → mean.Refused 15 ≡ mean_by count z
   unfolding mean_by
-  mean-outside h = rw h
+  mean_outside h = rw h
 
-  pub mean-none : fits z ≡ true → count ≡ 0 → mean.Refused 16 ≡ mean_by count z
+  pub mean_none : fits z ≡ true → count ≡ 0 → mean.Refused 16 ≡ mean_by count z
   unfolding mean_by
-  mean-none h e = rw (h, eq-eqb count 0 e)
+  mean_none h e = rw (h, eq-eqb count 0 e)
 
   pub mean_done : fits z ≡ true → (count ≡ 0 → ⊥) → (y : ℤ) → y ≡ z → (f : Fraction) → f ≡ fraction_of z (pos count)
       → mean.Done (record { count = count; sum = y; minus = f.minus; over = f.over; under = f.under }) ≡ mean_by count z
@@ -52,24 +52,24 @@ module _ (count : ℕ) (z : ℤ) where
 -- ---- one column
 
 module _ (formats schema : List ℕ) (x : Tables) (first n start end : ℕ) where
-  pub mean-ground : (g : ℕ) → g ≡ column_ground formats schema x first n → (g ≡ 0 → ⊥) → mean.Refused g ≡ mean_report formats schema x first n start end
+  pub mean_ground : (g : ℕ) → g ≡ column_ground formats schema x first n → (g ≡ 0 → ⊥) → mean.Refused g ≡ mean_report formats schema x first n start end
   unfolding mean_report
-  mean-ground g e h = rw (ne_eqb (column_ground formats schema x first n) 0 (λ q. h (e ∙ q)), e)
+  mean_ground g e h = rw (ne_eqb (column_ground formats schema x first n) 0 (λ q. h (e ∙ q)), e)
 
   module _ (g : column_ground formats schema x first n ≡ 0) where
-    pub mean-range : range_in x first start end ≡ false → mean.Refused 2 ≡ mean_report formats schema x first n start end
+    pub mean_range : range_in x first start end ≡ false → mean.Refused 2 ≡ mean_report formats schema x first n start end
     unfolding mean_report
-    mean-range r = rw (eq-eqb (column_ground formats schema x first n) 0 g, r)
+    mean_range r = rw (eq-eqb (column_ground formats schema x first n) 0 g, r)
 
     module _ (r : range_in x first start end ≡ true) where
-      pub mean-type : whole_type (type_of formats schema first n) ≡ false → mean.Refused 10 ≡ mean_report formats schema x first n start end
+      pub mean_type : whole_type (type_of formats schema first n) ≡ false → mean.Refused 10 ≡ mean_report formats schema x first n start end
       unfolding mean_report
-      mean-type w = rw (eq-eqb (column_ground formats schema x first n) 0 g, r, w)
+      mean_type w = rw (eq-eqb (column_ground formats schema x first n) 0 g, r, w)
 
-      pub mean-answer : whole_type (type_of formats schema first n) ≡ true → (count : ℕ) (sum : ℤ) → count ≡ count_of (seg (row_of formats schema x first n) start (end - start))
+      pub mean_answer : whole_type (type_of formats schema first n) ≡ true → (count : ℕ) (sum : ℤ) → count ≡ count_of (seg (row_of formats schema x first n) start (end - start))
           → sum ≡ sum_of (seg (row_of formats schema x first n) start (end - start)) → mean_by count sum ≡ mean_report formats schema x first n start end
       unfolding mean_report
-      mean-answer w count sum p q = rw (eq-eqb (column_ground formats schema x first n) 0 g, r, w) (ap₂ mean_by p q)
+      mean_answer w count sum p q = rw (eq-eqb (column_ground formats schema x first n) 0 g, r, w) (ap₂ mean_by p q)
 
 -- the range's test reads the lengths alone
 pub range_same : (x y : Tables) (k start end : ℕ) → x.lengths ≡ y.lengths → range_in x k start end ≡ range_in y k start end

@@ -24,10 +24,10 @@ module _ (x : Join) (depth : ℕ) where
   abbrev below : Walk
   below = batch_below x depth
 
-  pub dense-data : (depth i slot n : ℕ) (c : List ℕ) → code_of x.plan i ≡ 22
+  pub dense_data : (depth i slot n : ℕ) (c : List ℕ) → code_of x.plan i ≡ 22
       → copy_data x (copy_walk x depth) (code_of x.plan i) i slot n c ≡ copy_dense x (copy_walk x depth) i slot n c
   unfolding copy_data
-  dense-data depth i slot n c e = rw e refl
+  dense_data depth i slot n c e = rw e refl
 
   pub data_same : (i slot n : ℕ) (c : List ℕ) → Counts c → (batch_data x below (code_of x.plan i) i slot n c).ans ≡ 0
       → Leaves (copy_data x (copy_walk x (suc depth)) (code_of x.plan i) i slot n c) (batch_data x below (code_of x.plan i) i slot n c).counters
@@ -42,7 +42,7 @@ module _ (x : Join) (depth : ℕ) where
           let q = chain_cuts x depth (suc i) (list_shows x below (bytes_of x.plan i) i slot n c (λ a m d g. chain_was x depth (suc i) a m d g) h).2 in
           rw (list_data x (copy_walk x (suc depth)) i slot n c e)
           (list_views_same x below (copy_walk x (suc depth)) (bytes_of x.plan i) i slot q.good q.cuts (list_view_width (code_of x.plan i) e) n c f h)
-      go false e true g h = rw (dense-data (suc depth) i slot n c (eqb-true (code_of x.plan i) 22 g)) (dense_same x depth i slot n c f h)
+      go false e true g h = rw (dense_data (suc depth) i slot n c (eqb-true (code_of x.plan i) 22 g)) (dense_same x depth i slot n c f h)
       go false e false g h = let z : ◌≡◌ {A = ℕ} 12 0 = h in absurd (omega arith)
 
   pub slots_same : (i slot n : ℕ) (c : List ℕ) → i < 32 → Counts c → (batch_slots x below i slot n c).ans ≡ 0

@@ -29,7 +29,7 @@ use Rattle.batch.proofs.Leaves.{mask_fits, mask_zeros, mask_was, mask_goes}
 use Rattle.batch.proofs.Contents.{keeps, bits_of, mask_log, bits_long, bits_below, DataLogs}
 use Rattle.batch.proofs.LeafNode.{list_view_width}
 use Rattle.batch.proofs.LeafLogs.{Roomy}
-use Rattle.batch.proofs.Answers.{dense-data, data_same}
+use Rattle.batch.proofs.Answers.{dense_data, data_same}
 use Rattle.batch.proofs.Windows.{Keys, Room, AllInside, same_room}
 use Rattle.batch.proofs.Alike.{Window, Alike, alike_refl, alike_append, lays, lays_inside}
 use Rattle.batch.proofs.StretchLogs.{CutLogs, next_log}
@@ -133,7 +133,7 @@ module _ (x : Join) (depth M : ℕ) (body : Below 256 x.body) (less : M < top) (
     unfolding done
     dense_slots =
         rw (slots_are, copies_are, next_log (λ e. next (batch_data x below (code_of S i) i slot n e) (λ e2. done (add_rows i n e2))) (leaves_done c), next_log (λ e. next (copy_data x (copy_walk x (suc depth)) (code_of S i) i slot n e) (λ e2. done (add_rows i n e2))) (leaves_done c))
-        (rw (data_is_dense, next_log (λ e2. done (add_rows i n e2)) lo, next_log (λ e2. done (add_rows i n e2)) lp, dense-data x depth (suc depth) i slot n c is, append-nil o.log, append-nil (copy_dense x (copy_walk x (suc depth)) i slot n c).log)
+        (rw (data_is_dense, next_log (λ e2. done (add_rows i n e2)) lo, next_log (λ e2. done (add_rows i n e2)) lp, dense_data x depth (suc depth) i slot n c is, append-nil o.log, append-nil (copy_dense x (copy_walk x (suc depth)) i slot n c).log)
         (dense_write x depth i slot n c f c3 ts M (Used S) body rooms k1 k2 (rw (← rows_end) room1) (rw (← rows_end) room2)))
 
   -- a node that is no list-view is a dense union

@@ -31,7 +31,7 @@ use Rattle.columns.proofs.Grounds.{within_low}
 use Rattle.columns.proofs.Answers.{sum_fits}
 use Rattle.columns.specs.column_pair.Pair.{range_in}
 use Rattle.aggregates.specs.stretches.Ends.{ends_of}
-use Rattle.aggregates.proofs.stretches.Stretch.{ends_fit, ends_held, answered-is}
+use Rattle.aggregates.proofs.stretches.Stretch.{ends_fit, ends_held, answered_is}
 use Rattle.aggregates.proofs.Types.{run_over}
 use Rattle.walk.specs.State.{far}
 use Rattle.walk.specs.Log.{start_of, apply, Did}
@@ -229,7 +229,7 @@ module _ (formats schema lengths places buffers body : List ℕ) (first n target
         here = omega (arith, within)
 
         run_is : first_run formats schema y first start end ≡ run_at e v start
-        run_is = ap run_or (answered-is (tree_of formats schema first n) (tables_from x first) e ends_width (t_plain (fixed k)) source low64 start here)
+        run_is = ap run_or (answered_is (tree_of formats schema first n) (tables_from x first) e ends_width (t_plain (fixed k)) source low64 start here)
 
         -- THE RUNS STAND IN THE BODY
         pub expandable : Expandable formats schema y first start end keep

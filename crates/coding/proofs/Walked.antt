@@ -161,11 +161,11 @@ module _ (plan parts : List ℕ) (k : Number) (w : ℕ) (v : Column (t_plain (fi
           → Did plan parts true (each (encode_row k w v a m keep) (suc n) r (run_counts j)) room 0 (run_counts (j + length (cond b (r ∷ rest) rest))) (written j (cond b (r ∷ rest) rest) room)
       go true q ih f h =
           let few : j < far = omega arith in
-          let one-fits : Room (length room) (suc j) = subst (Room (length room)) (add-one j) (fewer_fit wk keep w ends values goal (length room) (j + suc (length rest)) j h (omega arith)) in
+          let one_fits : Room (length room) (suc j) = subst (Room (length room)) (add-one j) (fewer_fit wk keep w ends values goal (length room) (j + suc (length rest)) j h (omega arith)) in
           let z : suc j + length rest ≡ j + suc (length rest) = omega arith in
-          let more = ih (suc j) (one j r room) (omega arith) (omega arith) (rw (one_long r j room here few one-fits) (subst (Room (length room)) (sym z) h)) in
+          let more = ih (suc j) (one j r room) (omega arith) (omega arith) (rw (one_long r j room here few one_fits) (subst (Room (length room)) (sym z) h)) in
           subst (λ y. Did plan parts true (each (encode_row k w v a m keep) (suc n) r (run_counts j)) room 0 (run_counts y) (written (suc j) rest (one j r room))) z
-          (each_more true (encode_row k w v a m keep) (suc n) n r (suc r) (run_counts j) room refl (sym (add-one r)) (row_did r j room true here q (emit_did r j room here few one-fits)) refl more)
+          (each_more true (encode_row k w v a m keep) (suc n) n r (suc r) (run_counts j) room refl (sym (add-one r)) (row_did r j room true here q (emit_did r j room here few one_fits)) refl more)
       go false q ih f h =
           each_more true (encode_row k w v a m keep) (suc n) n r (suc r) (run_counts j) room refl (sym (add-one r)) (row_did r j room false here q (done_did true (run_counts j) room)) refl
           (ih j room (omega arith) f h)

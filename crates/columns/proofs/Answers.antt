@@ -21,13 +21,13 @@ use Rattle.columnar.specs.Test.{every}
 -- ---- ground 9 is not about the body
 
 module _ (formats schema lengths places buffers body : List ℕ) where
-  pub within-as : (first n : ℕ) → within_ceilings formats schema (tables lengths places []) first n ≡ within_ceilings formats schema (tables_of lengths places buffers body) first n
+  pub within_as : (first n : ℕ) → within_ceilings formats schema (tables lengths places []) first n ≡ within_ceilings formats schema (tables_of lengths places buffers body) first n
   unfolding within_ceilings node_fits count_fits few_buffers
-  within-as first n = refl
+  within_as first n = refl
 
-  pub all-within-as : (sources : List ℕ) → all_within formats schema (tables lengths places []) sources ≡ all_within formats schema (tables_of lengths places buffers body) sources
+  pub all_within_as : (sources : List ℕ) → all_within formats schema (tables lengths places []) sources ≡ all_within formats schema (tables_of lengths places buffers body) sources
   unfolding all_within within_ceilings node_fits count_fits few_buffers
-  all-within-as sources = refl
+  all_within_as sources = refl
 
 -- ---- where the rules are tested
 
@@ -53,9 +53,9 @@ module _ (formats schema : List ℕ) (x : Tables) where
 -- ---- one column
 
 module _ (formats schema : List ℕ) (x : Tables) (first n : ℕ) where
-  pub not-small : small_body x.body ≡ false → 9 ≡ column_ground formats schema x first n
+  pub not_small : small_body x.body ≡ false → 9 ≡ column_ground formats schema x first n
   unfolding column_ground
-  not-small b = rw b
+  not_small b = rw b
 
   module _ (b : small_body x.body ≡ true) where
     pub not_within : within_ceilings formats schema x first n ≡ false → 9 ≡ column_ground formats schema x first n
@@ -67,60 +67,60 @@ module _ (formats schema : List ℕ) (x : Tables) (first n : ℕ) where
       unfolding column_ground
       not_typed t = rw (b, w, t)
 
-      pub not-obeying : typed formats schema first n ≡ true → obeys formats schema x first n ≡ false → 12 ≡ column_ground formats schema x first n
+      pub not_obeying : typed formats schema first n ≡ true → obeys formats schema x first n ≡ false → 12 ≡ column_ground formats schema x first n
       unfolding column_ground
-      not-obeying t o = rw (b, w, t, o)
+      not_obeying t o = rw (b, w, t, o)
 
-      pub one-good : typed formats schema first n ≡ true → obeys formats schema x first n ≡ true → 0 ≡ column_ground formats schema x first n
+      pub one_good : typed formats schema first n ≡ true → obeys formats schema x first n ≡ true → 0 ≡ column_ground formats schema x first n
       unfolding column_ground
-      one-good t o = rw (b, w, t, o)
+      one_good t o = rw (b, w, t, o)
 
 -- ---- all sources
 
 module _ (formats schema : List ℕ) (x : Tables) (sources : List ℕ) where
-  pub none-small : small_body x.body ≡ false → 9 ≡ sources_ground formats schema x sources
+  pub none_small : small_body x.body ≡ false → 9 ≡ sources_ground formats schema x sources
   unfolding sources_ground
-  none-small b = rw b
+  none_small b = rw b
 
   module _ (b : small_body x.body ≡ true) where
-    pub not-few : few_sources sources ≡ false → 9 ≡ sources_ground formats schema x sources
+    pub not_few : few_sources sources ≡ false → 9 ≡ sources_ground formats schema x sources
     unfolding sources_ground
-    not-few f = rw (b, f)
+    not_few f = rw (b, f)
 
     module _ (f : few_sources sources ≡ true) where
-      pub not-all-within : all_within formats schema x sources ≡ false → 9 ≡ sources_ground formats schema x sources
+      pub not_all_within : all_within formats schema x sources ≡ false → 9 ≡ sources_ground formats schema x sources
       unfolding sources_ground
-      not-all-within w = rw (b, f, w)
+      not_all_within w = rw (b, f, w)
 
       module _ (w : all_within formats schema x sources ≡ true) where
-        pub not-all-typed : all_typed formats schema sources ≡ false → 10 ≡ sources_ground formats schema x sources
+        pub not_all_typed : all_typed formats schema sources ≡ false → 10 ≡ sources_ground formats schema x sources
         unfolding sources_ground
-        not-all-typed t = rw (b, f, w, t)
+        not_all_typed t = rw (b, f, w, t)
 
         module _ (t : all_typed formats schema sources ≡ true) where
-          pub not-all-same : all_same formats schema sources ≡ false → 11 ≡ sources_ground formats schema x sources
+          pub not_all_same : all_same formats schema sources ≡ false → 11 ≡ sources_ground formats schema x sources
           unfolding sources_ground
-          not-all-same e = rw (b, f, w, t, e)
+          not_all_same e = rw (b, f, w, t, e)
 
-          pub not-all-obey : all_same formats schema sources ≡ true → all_obey formats schema x sources ≡ false → 12 ≡ sources_ground formats schema x sources
-          not-all-obey e o = sym (by_nodes formats schema x sources ∙ rw (b, f, w, t, e, o) refl)
+          pub not_all_obey : all_same formats schema sources ≡ true → all_obey formats schema x sources ≡ false → 12 ≡ sources_ground formats schema x sources
+          not_all_obey e o = sym (by_nodes formats schema x sources ∙ rw (b, f, w, t, e, o) refl)
 
-          pub all-good : all_same formats schema sources ≡ true → all_obey formats schema x sources ≡ true → 0 ≡ sources_ground formats schema x sources
-          all-good e o = sym (by_nodes formats schema x sources ∙ rw (b, f, w, t, e, o) refl)
+          pub all_good : all_same formats schema sources ≡ true → all_obey formats schema x sources ≡ true → 0 ≡ sources_ground formats schema x sources
+          all_good e o = sym (by_nodes formats schema x sources ∙ rw (b, f, w, t, e, o) refl)
 
   -- WHERE 9, 10 AND 11 DO NOT STAND, neither does 12 of sources of one type whose buffers lie in the body
-  pub sources-rules : (sources_ground formats schema x sources ≡ 9 → ⊥) → (sources_ground formats schema x sources ≡ 10 → ⊥) → (sources_ground formats schema x sources ≡ 11 → ⊥)
+  pub sources_rules : (sources_ground formats schema x sources ≡ 9 → ⊥) → (sources_ground formats schema x sources ≡ 10 → ⊥) → (sources_ground formats schema x sources ≡ 11 → ⊥)
       → ((s : ℕ) → s < source_count sources → Placed formats schema x (first_of sources s) (nodes_of sources s))
       → ((s : ℕ) → s < source_count sources → same_type formats schema (first_of sources 0) (nodes_of sources 0) (first_of sources s) (nodes_of sources s) ≡ true → SourceAt formats schema x sources s)
       → sources_ground formats schema x sources ≡ 0
-  sources-rules no_9 no-10 no-11 lies all =
+  sources_rules no_9 no-10 no-11 lies all =
       go (small_body x.body) refl (few_sources sources) refl (all_within formats schema x sources) refl (all_typed formats schema sources) refl (all_same formats schema sources) refl
     where
       go : (a : Bool) → small_body x.body ≡ a → (b : Bool) → few_sources sources ≡ b → (c : Bool) → all_within formats schema x sources ≡ c → (d : Bool) → all_typed formats schema sources ≡ d
           → (e : Bool) → all_same formats schema sources ≡ e → sources_ground formats schema x sources ≡ 0
       go true p true q true r true t true u = sources_source formats schema x sources p q r t u lies (λ s l. all s l (same_at_lem formats schema x sources u s l))
-      go true p true q true r true t false u = absurd (no-11 (sym (not-all-same p q r t u)))
-      go true p true q true r false t e u = absurd (no-10 (sym (not-all-typed p q r t)))
-      go true p true q false r d t e u = absurd (no_9 (sym (not-all-within p q r)))
-      go true p false q c r d t e u = absurd (no_9 (sym (not-few p q)))
-      go false p b q c r d t e u = absurd (no_9 (sym (none-small p)))
+      go true p true q true r true t false u = absurd (no-11 (sym (not_all_same p q r t u)))
+      go true p true q true r false t e u = absurd (no-10 (sym (not_all_typed p q r t)))
+      go true p true q false r d t e u = absurd (no_9 (sym (not_all_within p q r)))
+      go true p false q c r d t e u = absurd (no_9 (sym (not_few p q)))
+      go false p b q c r d t e u = absurd (no_9 (sym (none_small p)))

@@ -20,14 +20,14 @@ use Rattle.frames.proofs.Frames.{weak, joined_side, stop_side, Numbers, stop_num
 
 -- ---- what a frame of rows is, by its first row
 
-none-some : {A : Type 0} {f : Frame} → ◌≡◌ {A = Option Frame} none (some f) → A
-none-some e = let z : ◌≡◌ {A = ℕ} 0 1 = cc in absurd (omega arith)
+none_some : {A : Type 0} {f : Frame} → ◌≡◌ {A = Option Frame} none (some f) → A
+none_some e = let z : ◌≡◌ {A = ℕ} 0 1 = cc in absurd (omega arith)
 
 is_some : {f g : Frame} → ◌≡◌ {A = Option Frame} (some f) (some g) → f ≡ g
 is_some e = cc
 
 framed_numbers : (ss : List Stop) (f : Frame) → framed ss ≡ some f → Numbers f
-framed_numbers [] f e = none-some e
+framed_numbers [] f e = none_some e
 framed_numbers (s ∷ ss) f e = go (counts s) refl (framed_numbers ss f) e
   where
     go : (b : Bool) → counts s ≡ b → (framed ss ≡ some f → Numbers f) → cond b (some (widened_by (frame_of s) ss)) (framed ss) ≡ some f → Numbers f
@@ -72,7 +72,7 @@ module _ (d : Side) where
 
 -- THE FIRST OF EQUALS: each side is the value of a counted row, and every counted row before that one lies strictly inside of it
 pub first_of_equals : (ss : List Stop) (f : Frame) → framed ss ≡ some f → (d : Side) → FirstMet d (side_of d f) ss
-first_of_equals [] f e d = none-some e
+first_of_equals [] f e d = none_some e
 first_of_equals (u ∷ us) f e d = go (counts u) refl (framed us) refl (λ g h. first_of_equals us g h d)
   where
     go : (b : Bool) → counts u ≡ b → (o : Option Frame) → framed us ≡ o → ((g : Frame) → framed us ≡ some g → FirstMet d (side_of d g) us)
@@ -144,7 +144,7 @@ module _ (d : Side) where
     where
       go : (b : Bool) → counts s ≡ b → (framed ss ≡ none → EachCounted (λ s. outside d (value_of d s) v ≡ false) ss)
           → cond b (some (widened_by (frame_of s) ss)) (framed ss) ≡ none → EachCounted (λ s. outside d (value_of d s) v ≡ false) (s ∷ ss)
-      go true c ih e = none-some (sym e)
+      go true c ih e = none_some (sym e)
       go false c ih e = (λ t. absurd (true≢false (sym t ∙ c)), ih e)
 
   own_side : (s : Stop) → outside d (value_of d s) (side_of d (frame_of s)) ≡ false
@@ -183,7 +183,7 @@ none_counts [] e = tt
 none_counts (s ∷ ss) e = go (counts s) refl (none_counts ss) e
   where
     go : (b : Bool) → counts s ≡ b → (framed ss ≡ none → EachCounted (λ s. ⊥) ss) → cond b (some (widened_by (frame_of s) ss)) (framed ss) ≡ none → EachCounted (λ s. ⊥) (s ∷ ss)
-    go true c ih e = none-some (sym e)
+    go true c ih e = none_some (sym e)
     go false c ih e = (λ t. true≢false (sym t ∙ c), ih e)
 
 pub no_frame : (ss : List Stop) → EachCounted (λ s. ⊥) ss → framed ss ≡ none

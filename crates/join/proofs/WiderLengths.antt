@@ -18,7 +18,7 @@ use Rattle.model.proofs.WiderAsks.{start_counts_wider}
 use Rattle.model.proofs.WiderAnswers.{keeps_wider}
 use Rattle.model.proofs.WiderOpening.{opening_wider}
 use Rattle.columns.specs.Grounds.{ceiling}
-use Rattle.columns.proofs.Answers.{sources-rules}
+use Rattle.columns.proofs.Answers.{sources_rules}
 use Rattle.array_data.specs.Sources.{first_of, nodes_of}
 use Rattle.array_data.specs.Typed.{tables_from}
 use Rattle.refinement.proofs.plan_is_type.OneTree.{same_column}
@@ -63,7 +63,7 @@ module _ (n w : Lending) (bytes_n : Bytes n) (bytes_w : Bytes w) (accepted_n : (
   -- THE WIDE SOURCES ARE TAKEN: 12 does not stand where 9, 10 and 11 do not and their buffers lie in the body
   pub wide_sources : Lendable w → sources_answer w ≡ 0
   wide_sources lends =
-      sources-rules w.formats w.schema w.tables w.sources lends.in_limits lends.of_types lends.alike (λ s l i q. lends.in_body_lem s i l q)
+      sources_rules w.formats w.schema w.tables w.sources lends.in_limits lends.of_types lends.alike (λ s l i q. lends.in_body_lem s i l q)
       (λ s l e.
       subst (Source (type_in w))
       (same_column w.formats w.schema (first_of w.sources 0) (nodes_of w.sources 0) (first_of w.sources s) (nodes_of w.sources s) e (tables_from w.tables (first_of w.sources s)) (type_in w) 0)

@@ -23,7 +23,7 @@ use Rattle.refinement.proofs.orders.Accepted.{accepted, order_keeps, walk_adds, 
 use Rattle.refinement.specs.opening.Open.{Opening, chosen, begin_gaps, first_offset, join_source, join_entries, open_dictionary, open_walk_of, refused, settled, room_placed, opening}
 use Rattle.refinement.proofs.opening.Laid.{stood}
 use Rattle.refinement.proofs.opening.Opened.{given, tests}
-use Rattle.refinement.proofs.opening.Written.{fine-zeros, opening_fine, opening_sound}
+use Rattle.refinement.proofs.opening.Written.{fine_zeros, opening_fine, opening_sound}
 use Rattle.join.specs.Join.{Lending, Bytes, opening_of, lent_of, after_calls, next_call}
 use Rattle.join.specs.Written.{OnlyGains}
 use Rattle.join.proofs.Written.{call_adds_lem}
@@ -32,10 +32,10 @@ use Rattle.join.proofs.Written.{call_adds_lem}
 abbrev Off : List ℕ → List ℕ → Type 0
 Off plan c = (i : ℕ) → code_of plan i ≡ 23 → gap c i ≡ 0
 
-no-numbers : (n k : ℕ) → get_or (replicate {A = ℕ} n 0) k 0 ≡ 0
-no-numbers zero k = refl
-no-numbers (suc n) zero = refl
-no-numbers (suc n) (suc k) = no-numbers n k
+no_numbers : (n k : ℕ) → get_or (replicate {A = ℕ} n 0) k 0 ≡ 0
+no_numbers zero k = refl
+no_numbers (suc n) zero = refl
+no_numbers (suc n) (suc k) = no_numbers n k
 
 -- ---- the walk of an opening
 
@@ -191,7 +191,7 @@ module _ (l : Lending) (b : Bytes l) (accepted-l : (opening_of l).refusal ≡ 0)
     gaps_off =
         orders_off (lent_of l) sound os (opening_of l).counters (opening_of l).room
         (opening_fine l.formats l.schema l.sources l.tables l.keep l.gaps l.parts l.plan l.counters l.room accepted-l)
-        (subst (Off (lent_of l).plan) (sym walked.1) (opens_off (lent_of l) sound values off_word (replicate 96 0) fine-zeros (λ i q. no-numbers 96 (3 * i + 2)) walked.0))
+        (subst (Off (lent_of l).plan) (sym walked.1) (opens_off (lent_of l) sound values off_word (replicate 96 0) fine_zeros (λ i q. no_numbers 96 (3 * i + 2)) walked.0))
 
     -- NO RUN END IS WRITTEN OVER
     pub no_last_end : (p h : ℕ) → LastEnd (lent_of l).plan l.parts (after_calls l os).counters p h → ⊥

@@ -203,9 +203,9 @@ module _ (p : Plain) (m : ℕ) (ds : ℕ → Dictionary (PlainBody p)) (g : (j :
       (join_step p ds j x h s.0 (appended p (ok v.valid) v.body v.off v.len x.len x.«data» s.0 (g j q).slots h.sound y) c vs (length_seg (ok v.valid) (v.off + 0) v.len)
       (λ i r. copied_bit true v.valid x.bits x.len (v.off + 0) v.len i (v.off + v.len) (g j q).mask h.bits_are (λ z. rw add-zero (none_null (k z) j q i r)) r ∙ rw add-zero))
 
-  kept-start : (b : Bool) → ◌≡◌ {A = Option (List Bool)} (cond b (some []) none) none → b ≡ false
-  kept-start true e = cc
-  kept-start false e = refl
+  kept_start : (b : Bool) → ◌≡◌ {A = Option (List Bool)} (cond b (some []) none) none → b ≡ false
+  kept_start true e = cc
+  kept_start false e = refl
 
   kept_grown : (vs : List Bool) (b : Option (List Bool)) → grow true vs b ≡ none → b ≡ none
   kept_grown vs none e = refl
@@ -226,7 +226,7 @@ module _ (p : Plain) (m : ℕ) (ds : ℕ → Dictionary (PlainBody p)) (g : (j :
     is_kept : d.bits ≡ none → keep ≡ false
 
   joined_both : (j : ℕ) → j ≤ m → (d : Mutable (PlainBody p)) → joined_from p dicts j (start_node keep (plain_start p)) ≡ done d → Both j d
-  joined_both zero q d e = subst (Both 0) (done_is e) (record { is_joined = join_start p ds keep; is_kept = kept-start keep })
+  joined_both zero q d e = subst (Both 0) (done_is e) (record { is_joined = join_start p ds keep; is_kept = kept_start keep })
   joined_both (suc j) q d e =
       let r = then_done (joined_from p dicts j (start_node keep (plain_start p))) (λ x. extend_node true (λ ss i. plain_extend p (ss i)) dicts j 0 (ds j).values.len x) d e in
       let b = joined_both j (omega arith) r.0 r.1.0 in

@@ -111,9 +111,9 @@ plain_start_lem : (p : Plain) (b : ℕ → Bool) → FormedPlain p → PlainFine
 plain_start_lem (fixed k) b f = sym (zero-mul _)
 plain_start_lem (string w) b f = offsets_start w f
 
-not-two : (g : Bool) → ◌≡◌ {A = ℕ} (cond g 1 0) 2 → ⊥
-not-two true e = omega arith
-not-two false e = omega arith
+not_two : (g : Bool) → ◌≡◌ {A = ℕ} (cond g 1 0) 2 → ⊥
+not_two true e = omega arith
+not_two false e = omega arith
 
 pub start_data_lem : (gaps : Bool) (t : Ty) (u : Bool) (m : ℕ) (ss : ℕ → Body t) (b : ℕ → Bool) → 0 < m → Formed t → FineOf t m ss b (start_data gaps t u m ss) 0
 start_data_lem gaps (t_plain p) u m ss b z f = plain_start_lem p b f
@@ -157,8 +157,8 @@ start_data_lem gaps (t_run_end w t) u m ss b z f =
       covers = refl;
       fits = run_pos f.0;
       as_many = refl;
-      some_run = λ z. absurd (not-two gaps z);
-      null_run = λ z. absurd (not-two gaps z);
+      some_run = λ z. absurd (not_two gaps z);
+      null_run = λ z. absurd (not_two gaps z);
       values_fine = start_node_lem (masks t) u (FineOf t m (λ i. (ss i).values.body)) m (λ i. (ss i).values) _ (λ b. start_data_lem gaps t _ m (λ i. (ss i).values.body) b z f.1);
     }
 start_data_lem gaps (t_dictionary k p) u m ss b z f = record { sources = z; keys_are = sym (zero-mul _); positive = λ i q. absurd (omega arith); within = λ i q. absurd (omega arith) }

@@ -276,8 +276,8 @@ run_did x wr w i slot n last run count c room {room2 = room2} e f g h l m s a b 
 
 -- ---- gaps
 
-pub gap-one : (g : ℕ) → 1 < g → ◌≡◌ {A = ℕ} 1 (min g 1)
-gap-one g h = omega arith
+pub gap_one : (g : ℕ) → 1 < g → ◌≡◌ {A = ℕ} 1 (min g 1)
+gap_one g h = omega arith
 
 pub gap_low : (g : ℕ) → g ≤ 1 → g ≡ min g 1
 gap_low g h = omega arith

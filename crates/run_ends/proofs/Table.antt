@@ -13,18 +13,18 @@ unfoldable ends : ℕ → List ℕ
 ends w = encode w 2 ++ encode w 5 ++ encode w 9
 
 -- the rows 1..5 of the column are the rows 2..6 of its run ends: the runs 1 and 2, by either lookup
-k1-runs : runs_between (format_run 4 (ends 4) 0 3 6) 2 6 ≡ Range (record { 0 = 1 }) 2
+k1_runs : runs_between (format_run 4 (ends 4) 0 3 6) 2 6 ≡ Range (record { 0 = 1 }) 2
 unfolding ends encode number scan
-k1-runs = refl
+k1_runs = refl
 
-k1-search : runs_of (found_run 4 (ends 4) 0 3 6) 2 6 ≡ Range (record { 0 = 1 }) 2
+k1_search : runs_of (found_run 4 (ends 4) 0 3 6) 2 6 ≡ Range (record { 0 = 1 }) 2
 unfolding ends encode number tally quarter
-k1-search = refl
+k1_search = refl
 
 -- the rows 2..3 of the column are all left in run 1
-k1-one : runs_of (found_run 4 (ends 4) 0 3 5) 3 5 ≡ Range (record { 0 = 1 }) 1
+k1_one : runs_of (found_run 4 (ends 4) 0 3 5) 3 5 ≡ Range (record { 0 = 1 }) 1
 unfolding ends encode number tally quarter
-k1-one = refl
+k1_one = refl
 
 -- ---- the rows left
 

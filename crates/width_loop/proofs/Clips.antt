@@ -79,17 +79,17 @@ module _ (x : Tables) (i w s n : ℕ) (h : RunsHere x i w s n) (some : 1 ≤ n) 
   few_runs = omega (arith, in_order_lem old len s n h.rises some h.covers, last_run old len s n h.rises some h.covers)
 
   -- what the search answers
-  same-range : {a b : ℕ} {r : PhysicalRun} {q : ℕ} → Range r q ≡ Range (record { 0 = a }) b → (r.0 ≡ a) × (q ≡ b)
-  same-range e = (cc, cc)
+  same_range : {a b : ℕ} {r : PhysicalRun} {q : ℕ} → Range r q ≡ Range (record { 0 = a }) b → (r.0 ≡ a) × (q ≡ b)
+  same_range e = (cc, cc)
 
   pub runs_found : {e l : ℕ} {r : Runs} {a : PhysicalRun} {m : ℕ} → e ≡ from → l ≡ len → r ≡ runs_of (found_run w x.body e l (s + n)) s (s + n) → r ≡ Range a m → (a.0 ≡ First old len s n) × (m ≡ Many old len s n)
-  runs_found {e} {l} p q f g = same-range (sym g ∙ f ∙ ap₂ (λ y z. runs_of (found_run w x.body y z (s + n)) s (s + n)) p q ∙ found)
+  runs_found {e} {l} p q f g = same_range (sym g ∙ f ∙ ap₂ (λ y z. runs_of (found_run w x.body y z (s + n)) s (s + n)) p q ∙ found)
 
-  none-range : {a b : ℕ} → ◌≡◌ {A = Runs} None (Range (record { 0 = a }) b) → ⊥
-  none-range e = let z : ◌≡◌ {A = ℕ} 0 1 = cc in omega arith
+  none_range : {a b : ℕ} → ◌≡◌ {A = Runs} None (Range (record { 0 = a }) b) → ⊥
+  none_range e = let z : ◌≡◌ {A = ℕ} 0 1 = cc in omega arith
 
   pub runs_none : {e l : ℕ} {r : Runs} → e ≡ from → l ≡ len → r ≡ runs_of (found_run w x.body e l (s + n)) s (s + n) → r ≡ None → ⊥
-  runs_none {e} {l} p q f g = none-range (sym g ∙ f ∙ ap₂ (λ y z. runs_of (found_run w x.body y z (s + n)) s (s + n)) p q ∙ found)
+  runs_none {e} {l} p q f g = none_range (sym g ∙ f ∙ ap₂ (λ y z. runs_of (found_run w x.body y z (s + n)) s (s + n)) p q ∙ found)
 
   -- where they stand
   pub ends_in_lem : {e l : ℕ} → e ≡ from → l ≡ len → e + w * l ≤ length x.body

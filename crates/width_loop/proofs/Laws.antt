@@ -115,14 +115,14 @@ unfolding number
 number_none zero = refl
 number_none (suc w) = refl
 
-drop-none : (k : ℕ) → ◌≡◌ {A = List ℕ} (drop k []) []
-drop-none zero = refl
-drop-none (suc k) = refl
+drop_none : (k : ℕ) → ◌≡◌ {A = List ℕ} (drop k []) []
+drop_none zero = refl
+drop_none (suc k) = refl
 
 -- an empty buffer has none but 0
 pub item_none : (w k : ℕ) → item w [] k ≡ 0
 unfolding item
-item_none w k = ap (number w) (drop-none (k * w)) ∙ number_none w
+item_none w k = ap (number w) (drop_none (k * w)) ∙ number_none w
 
 pub no_offset : (body : List ℕ) (at size w k : ℕ) → size ≡ 0 → 0 ≡ item w (part body at size) k
 no_offset body at size w k e = rw e (sym (item_none w k))

@@ -47,8 +47,8 @@ end_decides w b s (suc n) rises covers most = ends_decide w b s n rises covers m
 
 -- ---- what an answer is
 
-not-stop : {A : Type 0} {x : A} {g : ℕ} → ◌≡◌ {A = Try A} (done x) (stop g) → ⊥
-not-stop e = let z : ◌≡◌ {A = ℕ} 0 1 = cc in omega arith
+not_stop : {A : Type 0} {x : A} {g : ℕ} → ◌≡◌ {A = Try A} (done x) (stop g) → ⊥
+not_stop e = let z : ◌≡◌ {A = ℕ} 0 1 = cc in omega arith
 
 stop_is : {A : Type 0} {g h : ℕ} → ◌≡◌ {A = Try A} (stop g) (stop h) → g ≡ h
 stop_is e = cc
@@ -63,6 +63,6 @@ goes_value {A} {B} {μ} {Q} {R} m y z f h = go h m refl
   where
     go : {t : Try A} {o : Out} → Goes μ Q t o → (m : Try (Unit {0})) → t ≡ then m (λ u. done y) → Goes μ R (then m (λ u. done z)) o
     go (good a o e p q) (done u) k = good z o e p (f o.counters (after o.log μ) (subst (λ w. Q w o.counters (after o.log μ)) (done_is k) q))
-    go (good a o e p q) (stop g) k = absurd (not-stop k)
-    go (over g o e p) (done u) k = absurd (not-stop (sym k))
+    go (good a o e p q) (stop g) k = absurd (not_stop k)
+    go (over g o e p) (done u) k = absurd (not_stop (sym k))
     go (over g o e p) (stop h) k = subst (λ w. Goes μ R (stop w) o) (stop_is k) (over g o e p)

@@ -49,15 +49,15 @@ done_is e = cc
 stop_is : {A : Type 0} {g h : ℕ} → ◌≡◌ {A = Try A} (stop g) (stop h) → g ≡ h
 stop_is e = cc
 
-not-stop : {A : Type 0} {y : A} {g : ℕ} → ◌≡◌ {A = Try A} (done y) (stop g) → ⊥
-not-stop e = let z : ◌≡◌ {A = ℕ} 0 1 = cc in omega arith
+not_stop : {A : Type 0} {y : A} {g : ℕ} → ◌≡◌ {A = Try A} (done y) (stop g) → ⊥
+not_stop e = let z : ◌≡◌ {A = ℕ} 0 1 = cc in omega arith
 
 when_done : {A : Type 0} {μ : Memory} {Q : A → List ℕ → Memory → Type 0} {t : Try A} {o : Out} (y : A) → Goes μ Q t o → t ≡ done y → Quiet μ (Q y) o
 when_done {μ = μ} {Q} y (good z o e p q) h = record { is_done = e; in_place = p; leaves = subst (λ w. Q w o.counters (after o.log μ)) (done_is h) q }
-when_done y (over g o e p) h = absurd (not-stop (sym h))
+when_done y (over g o e p) h = absurd (not_stop (sym h))
 
 when_stopped : {A : Type 0} {μ : Memory} {Q : A → List ℕ → Memory → Type 0} {t : Try A} {o : Out} (g : ℕ) → Goes μ Q t o → t ≡ stop g → o.ans ≡ g
-when_stopped g (good z o e p q) h = absurd (not-stop h)
+when_stopped g (good z o e p q) h = absurd (not_stop h)
 when_stopped g (over k o e p) h = e ∙ stop_is h
 
 -- all that is known of a column, its target and the plan

@@ -49,13 +49,13 @@ pub bounded_by : (r : Cell) → (r.count ≤ 1) × (r.below ≤ 1) × (r.bits �
 bounded_by r h = record { count = h.0; below = h.1; bits = h.2 }
 
 -- a run's rows
-pub run-flat : (g : ℕ → Cell) (row left : ℕ) (v r : Cell) → ((j : ℕ) → j < left → g (row + j) ≡ v) → r ≡ v → Bounded r → Flat g row (record { cell = r; until = row + left })
-run-flat g row left v r h e b =
+pub run_flat : (g : ℕ → Cell) (row left : ℕ) (v r : Cell) → ((j : ℕ) → j < left → g (row + j) ≡ v) → r ≡ v → Bounded r → Flat g row (record { cell = r; until = row + left })
+run_flat g row left v r h e b =
     record { bounded = b; same = λ k l m. let z : row + (k - row) ≡ k = omega arith in subst (λ i. g i ≡ r) z (h (k - row) (omega arith) ∙ sym e) }
 
 -- one row
-pub one-flat : (g : ℕ → Cell) (row : ℕ) (r : Cell) → r ≡ g row → Bounded r → Flat g row (record { cell = r; until = row + 1 })
-one-flat g row r e b = record { bounded = b; same = λ k l m. let z : row ≡ k = omega arith in subst (λ i. g i ≡ r) z (sym e) }
+pub one_flat : (g : ℕ → Cell) (row : ℕ) (r : Cell) → r ≡ g row → Bounded r → Flat g row (record { cell = r; until = row + 1 })
+one_flat g row r e b = record { bounded = b; same = λ k l m. let z : row ≡ k = omega arith in subst (λ i. g i ≡ r) z (sym e) }
 
 pub flip : (v b : Bool) → not v ≡ b → v ≡ not b
 flip true true e = sym e

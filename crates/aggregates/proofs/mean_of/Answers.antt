@@ -2,7 +2,7 @@
 use Rattle.std.proofs.Common.{◌≡◌, ℕ, ◌-◌, ◌<◌, true, false, ℤ, pos, negsuc, sym, ◌∙◌, subst, ap₂, to_z-of_z, w64, SFits, to_z, ltb-true, lt-ltb}
 use Rattle.aggregates.specs.fractions.Lowest.{fraction_of}
 use Rattle.aggregates.specs.tally.Sums.{fits}
-use Rattle.aggregates.proofs.Answers.{total_out, total_in, mean-outside, mean-none, mean_done}
+use Rattle.aggregates.proofs.Answers.{total_out, total_in, mean_outside, mean_none, mean_done}
 use Rattle.aggregates.proofs.mean_of.Goals as goal
 
 to_pos : (l : ℕ) → l < 9223372036854775808 → to_z w64 l ≡ pos l
@@ -17,11 +17,11 @@ its_fit (negsuc n) h = record { sfits = ltb-true n 9223372036854775808 h }
 
 pub returns-in_default : goal.returns-in_default
 returns-in_default c =
-    mean-outside c.args.t.count _ (total_out _ (sym c.in_default.is ∙ c.exact_sum.ensures))
+    mean_outside c.args.t.count _ (total_out _ (sym c.in_default.is ∙ c.exact_sum.ensures))
 
 pub returns-then-count-eq0 : goal.returns-then-count-eq0
 returns-then-count-eq0 c =
-    mean-none c.args.t.count _ (total_in _ _ (sym c.in-Fits.is ∙ c.exact_sum.ensures)).0 c.if-count-eq0.true
+    mean_none c.args.t.count _ (total_in _ _ (sym c.in-Fits.is ∙ c.exact_sum.ensures)).0 c.if-count-eq0.true
 
 pub reduced-f-requires : goal.reduced-f-requires
 reduced-f-requires c =

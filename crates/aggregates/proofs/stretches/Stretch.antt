@@ -169,8 +169,8 @@ module _ (tree : Tree) (x : Tables) (w : ℕ) (of_width : RunWidth w) (u : Ty) (
         let some : 1 ≤ w * length_of x 1 = le_trans (wide w of_width) (omega (arith, mul-le-mul_left w one, mul-one w)) in
         (omega (arith, m), omega (arith, f, m, some, length-take (place x 1 4) (drop (place x 1 3) x.body), length-drop (place x 1 3) x.body))
 
-    pub answered-is : asked row ≡ answer.Run (record { 0 = its_run }) its_left
-    answered-is =
+    pub answered_is : asked row ≡ answer.Run (record { 0 = its_run }) its_left
+    answered_is =
         let rule = src.slots in
         let m : e.stop - e.start ≡ w * length_of x 1 = omega (arith, mul-add w (offset_of x 1) (length_of x 1)) in
         ap (λ n. row_run (part x.body e.start n) e.offset e.len e.width row) m
@@ -192,7 +192,7 @@ module _ (tree : Tree) (x : Tables) (w : ℕ) (of_width : RunWidth w) (u : Ty) (
 
     -- AN ANSWERED RUN is a stretch of rows
     pub stretch_run : (k : PhysicalRun) (left : ℕ) → asked row ≡ answer.Run k left → Stretch tree x w u row k.0 left
-    stretch_run k left q = go (sym answered-is ∙ q)
+    stretch_run k left q = go (sym answered_is ∙ q)
       where
         go : answer.Run (record { 0 = its_run }) its_left ≡ answer.Run k left → Stretch tree x w u row k.0 left
         go r =
@@ -202,4 +202,4 @@ module _ (tree : Tree) (x : Tables) (w : ℕ) (of_width : RunWidth w) (u : Ty) (
 
     -- .. and a row of the column is never refused
     pub stretch_some : (g : ℕ) → asked row ≡ answer.Refused g → ⊥
-    stretch_some g q = let r = sym answered-is ∙ q in let z : ◌≡◌ {A = ℕ} 0 1 = cc in omega arith
+    stretch_some g q = let r = sym answered_is ∙ q in let z : ◌≡◌ {A = ℕ} 0 1 = cc in omega arith

@@ -15,6 +15,6 @@ unfolding number encode item bit
 examples_pass = refl
 
 -- SLICED KEYS, a null entry in use and one that is not, no entry in use, a key of any number under a null, more entries than keys
-pub examples-are : map (λ e. record { key = e.key; plain = e.plain; column = e.column; result = reclaimed e.key e.plain e.column }) reclaimings ≡ reclaimings
+pub examples_are : map (λ e. record { key = e.key; plain = e.plain; column = e.column; result = reclaimed e.key e.plain e.column }) reclaimings ≡ reclaimings
 unfolding number encode item bit pack
-examples-are = refl
+examples_are = refl

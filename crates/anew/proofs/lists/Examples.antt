@@ -25,6 +25,6 @@ unfolding number encode item bit pack
 views_are = refl
 
 -- A SLICED LIST-VIEW with rows that overlap and a null over a stretch, a dictionary that is kept, 7 and 6
-pub lists-are : map (λ e. record { w = e.w; type = e.type; column = e.column; result = listed e.w e.type e.column }) to_lists ≡ to_lists
+pub lists_are : map (λ e. record { w = e.w; type = e.type; column = e.column; result = listed e.w e.type e.column }) to_lists ≡ to_lists
 unfolding number encode item bit pack
-lists-are = refl
+lists_are = refl

@@ -19,9 +19,9 @@ unfolding number encode item bit
 examples_pass = refl
 
 -- A SLICED COLUMN of each kind up or down, a key of any number under a null, an offset too far under a null, and 6, 7 and 8 at their limits
-pub examples-are : map (λ e. record { from = e.from; to = e.to; widths = e.widths; column = e.column; result = converted e.from e.to e.widths e.column }) convertings ≡ convertings
+pub examples_are : map (λ e. record { from = e.from; to = e.to; widths = e.widths; column = e.column; result = converted e.from e.to e.widths e.column }) convertings ≡ convertings
 unfolding number encode item bit pack
-examples-are = refl
+examples_are = refl
 
 -- A SLICED UNION: its ids from the slice on, the children of a sparse one cut to the rows, those of a dense one kept
 pub sparse_is : (wide_sparse.body.ids ≡ 1 ∷ 2 ∷ 1 ∷ 0 ∷ []) × (wide_sparse.body.children 2 ≡ cut_strings)

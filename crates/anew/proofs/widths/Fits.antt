@@ -74,8 +74,8 @@ pub record Misfit (l : List Demand) (g : ℕ) : Type 0 where
   pub over : bad.most ≤ bad.number
   pub ground_is : bad.refusal ≡ g
 
-not-stop : {g : ℕ} → ◌≡◌ {A = Try (Unit {0})} (done tt) (stop g) → ⊥
-not-stop e = let z : ◌≡◌ {A = ℕ} 0 1 = cc in omega arith
+not_stop : {g : ℕ} → ◌≡◌ {A = Try (Unit {0})} (done tt) (stop g) → ⊥
+not_stop e = let z : ◌≡◌ {A = ℕ} 0 1 = cc in omega arith
 
 stop_is : {g h : ℕ} → ◌≡◌ {A = Try (Unit {0})} (stop g) (stop h) → g ≡ h
 stop_is e = cc
@@ -87,7 +87,7 @@ tried_done (x ∷ l) e = go (ltb x.number x.most) refl e (tried_done l)
   where
     go : (b : Bool) → ltb x.number x.most ≡ b → guard b x.refusal (tried l) ≡ done tt → (tried l ≡ done tt → AllFit l) → (x.number < x.most) × AllFit l
     go true p e f = (ltb-true x.number x.most p, f e)
-    go false p e f = absurd (not-stop (sym e))
+    go false p e f = absurd (not_stop (sym e))
 
 pub done_tried : (l : List Demand) → AllFit l → tried l ≡ done tt
 done_tried [] h = refl
@@ -95,7 +95,7 @@ done_tried (x ∷ l) h = rw (lt-ltb x.number x.most h.0) (done_tried l h.1)
 
 -- STOPPED EXACTLY BY THE FIRST THAT DOES NOT FIT, with its ground
 pub tried_stop : (l : List Demand) (g : ℕ) → tried l ≡ stop g → Misfit l g
-tried_stop [] g e = absurd (not-stop e)
+tried_stop [] g e = absurd (not_stop e)
 tried_stop (x ∷ l) g e = go (ltb x.number x.most) refl e (tried_stop l g)
   where
     go : (b : Bool) → ltb x.number x.most ≡ b → guard b x.refusal (tried l) ≡ stop g → (tried l ≡ stop g → Misfit l g) → Misfit (x ∷ l) g

@@ -35,8 +35,8 @@ module _ (x : Join) (i slot : ℕ) where
   homes_same homes h small {ids} e =
       fun_ext (λ r. h (get_or x.body (ids + (slot + r)) 0) (small (ids + (slot + r))) ∙ ap (λ v. child_with x.plan (get_or x.body (v + (slot + r)) 0) (end_of x.plan i) 32 (suc i)) e)
 
-  pub positions-same : {positions : ℕ} → positions ≡ place x i 5 → ◌≡◌ {A = ℕ → ℕ} (λ r. entry 4 x.body positions (slot + r)) (λ r. position_at x (batch_leaf x) i (slot + r))
-  positions-same e = ap (λ v. λ r. entry 4 x.body v (slot + r)) e
+  pub positions_same : {positions : ℕ} → positions ≡ place x i 5 → ◌≡◌ {A = ℕ → ℕ} (λ r. entry 4 x.body positions (slot + r)) (λ r. position_at x (batch_leaf x) i (slot + r))
+  positions_same e = ap (λ v. λ r. entry 4 x.body v (slot + r)) e
 
   module _ (n : ℕ) (wr : Bool) where
     -- ---- one child after the other

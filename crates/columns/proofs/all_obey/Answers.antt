@@ -6,7 +6,7 @@ use native.Mathlib.Omega.{arith}
 use borrow.Author.Count.{below_more}
 use mathlib.Core.Path.{◌∙◌}
 use Rattle.source_rules.specs.kinds.Rows.{tables_of}
-use Rattle.columns.proofs.Answers.{all-within-as, ready_at}
+use Rattle.columns.proofs.Answers.{all_within_as, ready_at}
 use Rattle.schema.proofs.Laws.{every_all, every_not}
 use Rattle.array_data.proofs.lent_tables.Laws.{no, yes}
 use Rattle.columns.specs.Grounds.{obeys, all_obey}
@@ -34,7 +34,7 @@ source_ok-requires c =
     let z = c.args in
     let l = c.loop-s in
     let x = tables_of z.lengths.now z.places.now z.buffers.now z.body.now in
-    let same = all-within-as z.formats.now z.schema.now z.lengths.now z.places.now z.buffers.now z.body.now z.sources.now in
+    let same = all_within_as z.formats.now z.schema.now z.lengths.now z.places.now z.buffers.now z.body.now z.sources.now in
     ready_at z.formats.now z.schema.now x z.sources.now (sym same ∙ c.requires.0) c.requires.1 l.s (omega arith) _ _ c.first_of-from.ensures c.nodes_of-size.ensures (omega arith)
 
 pub returns-then-not-source_ok : goal.returns-then-not-source_ok

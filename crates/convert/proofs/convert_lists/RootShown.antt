@@ -135,8 +135,8 @@ module _ (l : Lent) (counters : List ℕ) (μ : Memory) (n w : ℕ) (keep : Bool
       root_sizes = second_is l buffers counters room base body bodied μ lies placed root_bounded 0 in_table (copied_free plan 0 tt) (starts ∷ sizes ∷ []) root_own
 
       -- ITS LENGTH, OFFSET AND VALIDITY
-      pub root-shows : {B : Type 0} (inner : B → Type 0) (b : B) → inner b → ShowsNode Y 0 inner (record { len = n; off = 0; valid = validity true (some bs); body = b })
-      root-shows {B} inner b p =
+      pub root_shows : {B : Type 0} (inner : B → Type 0) (b : B) → inner b → ShowsNode Y 0 inner (record { len = n; off = 0; valid = validity true (some bs); body = b })
+      root_shows {B} inner b p =
           let s = bits_stand l buffers counters μ 0 keep n bs h.keeps_are h.bits_long h.bits_are h.no_zeros in
           let d : Mutable B = record { len = n; null_count = 0; bits = s.bits; «data» = b } in
           let c = between_both 17 18 (code_of plan 0) h.of_view in
@@ -145,8 +145,8 @@ module _ (l : Lent) (counters : List ℕ) (μ : Memory) (n w : ℕ) (keep : Bool
           record { len_is = q.len_is; off_is = q.off_is; valid_is = q.valid_is ∙ sym s.valid_is; body_is = p }
 
       -- ITS NULL COUNT, from its bits
-      pub root-counters : {B : Type 0} (inner : B → Type 0) (b : B) → inner b → CountsNode (null_table l buffers counters room base) 0 inner (record { len = n; off = 0; valid = validity true (some bs); body = b })
-      root-counters {B} inner b p =
+      pub root_counters : {B : Type 0} (inner : B → Type 0) (b : B) → inner b → CountsNode (null_table l buffers counters room base) 0 inner (record { len = n; off = 0; valid = validity true (some bs); body = b })
+      root_counters {B} inner b p =
           let s = bits_stand l buffers counters μ 0 keep n bs h.keeps_are h.bits_long h.bits_are h.no_zeros in
           let d : Mutable B = record { len = n; null_count = 0; bits = s.bits; «data» = b } in
           let c = between_both 17 18 (code_of plan 0) h.of_view in

@@ -54,7 +54,7 @@ use Rattle.convert.proofs.convert_lists.Root.{quiet_map}
 use Rattle.convert.proofs.convert_lists.RootUses.{mask_uses}
 use Rattle.convert.proofs.convert_lists.Viewing.{Viewed, entries_long}
 use Rattle.convert.proofs.convert_lists.ViewLent.{ViewDue, wide, item, column, column_good, root_lent, made_bytes, made_view, made_keeps, view_done}
-use Rattle.convert.proofs.convert_lists.RootShown.{RootHeld, root_exact, root_fits, root_starts, root_sizes, root-shows, root-counters, root_inside, root_finishes}
+use Rattle.convert.proofs.convert_lists.RootShown.{RootHeld, root_exact, root_fits, root_starts, root_sizes, root_shows, root_counters, root_inside, root_finishes}
 
 no_bits : (start : ℕ) (room : List ℕ) → HasBits start [] room
 unfolding bits_at
@@ -236,9 +236,9 @@ module _ (formats schema : List ℕ) (x : Tables) (first m target : ℕ) (ok-col
     made_root : (base : ℕ) (body : List ℕ) → Done (written formats schema x first n (view_own formats schema x first n target n) made walk parts plan counters room) base body
     made_root base body bodied =
         record {
-          shown = root-shows lent walk.counters memory v.len w keep bits starts sizes held through.holds x.buffers after_room lying after_placed base body bodied _ tt
+          shown = root_shows lent walk.counters memory v.len w keep bits starts sizes held through.holds x.buffers after_room lying after_placed base body bodied _ tt
               (root_starts lent walk.counters memory v.len w keep bits starts sizes held through.holds x.buffers after_room lying after_placed base body bodied, root_sizes lent walk.counters memory v.len w keep bits starts sizes held through.holds x.buffers after_room lying after_placed base body bodied);
-          counted = root-counters lent walk.counters memory v.len w keep bits starts sizes held through.holds x.buffers after_room lying after_placed base body bodied _ tt tt;
+          counted = root_counters lent walk.counters memory v.len w keep bits starts sizes held through.holds x.buffers after_room lying after_placed base body bodied _ tt tt;
           inside = root_inside lent walk.counters memory v.len w keep bits starts sizes held through.holds x.buffers after_room lying after_placed base body bodied;
         }
 

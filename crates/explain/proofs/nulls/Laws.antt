@@ -84,9 +84,9 @@ module _ (x : Join) (depth : ℕ) where
     dense_home l = rw (← e, le-ltb h 32 l) refl
 
     module _ (l : h < 32) {v m s : ℕ} (p : v ≡ rows c h) (q : m ≡ walked n) (r : s ≡ grown v m) where
-      pub dense-over : 2147483648 < s → {a b d : ℕ} → a ≡ first_position v → a ≤ top → b ≡ a - v → d ≡ 2147483647 → why_null_dense x walk why i n c ≡ record { refusal = 6; node = i; row = b; needed = a; allowed = d }
+      pub dense_over : 2147483648 < s → {a b d : ℕ} → a ≡ first_position v → a ≤ top → b ≡ a - v → d ≡ 2147483647 → why_null_dense x walk why i n c ≡ record { refusal = 6; node = i; row = b; needed = a; allowed = d }
       unfolding why_null_dense why_null_home unless
-      dense-over h2 {a} f t g k =
+      dense_over h2 {a} f t g k =
           let o : half 4 < rows c h + walked n = omega (arith, cut v m r, p, q, h2) in
           let y : min (first_position (rows c h)) top ≡ first_position (rows c h) = min-eq_left (subst (λ z. z ≤ top) (f ∙ ap first_position p) t) in
           rw (← e, lt-ltb h 32 l, lt-leb (rows c h + walked n) (half 4) o, g, f, k, p, y) refl

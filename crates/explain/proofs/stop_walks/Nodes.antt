@@ -127,8 +127,8 @@ module _ (x : Join) (depth : ℕ) where
         pub string_fits : {last lead v : ℕ} → e ≡ Fits last lead → v ≡ cond (leb (place x i 5 + lead + (last - old)) (length x.body)) 0 12 → why_string x walk why w i slot n c ≡ only v
         string_fits {last} {lead} k l = string_by ∙ rw (k, l, o) (ap only (string_ans x i w (place x i 3 + w * slot) n last lead c))
 
-        pub string-clash : {row needed m : ℕ} → e ≡ Over row needed → m ≡ most w → why_string x walk why w i slot n c ≡ record { refusal = 6; node = i; row = row; needed = needed; allowed = m }
-        string-clash {row} {needed} k l = string_by ∙ rw (k, l) (ap (λ z. record { refusal = 6; node = i; row = row; needed = z; allowed = most w }) (over_cut w x.body from n old (sym g ∙ k)))
+        pub string_clash : {row needed m : ℕ} → e ≡ Over row needed → m ≡ most w → why_string x walk why w i slot n c ≡ record { refusal = 6; node = i; row = row; needed = needed; allowed = m }
+        string_clash {row} {needed} k l = string_by ∙ rw (k, l) (ap (λ z. record { refusal = 6; node = i; row = row; needed = z; allowed = most w }) (over_cut w x.body from n old (sym g ∙ k)))
 
         pub string_falls : e ≡ Falls → why_string x walk why w i slot n c ≡ only 12
         string_falls k = string_by ∙ rw k refl
@@ -183,9 +183,9 @@ module _ (x : Join) (depth : ℕ) where
     dense_none h c2 = rw (← e, le-ltb k 32 h) (record { row = ((λ z. absurd (omega (arith, z))), refl) })
 
     module _ (l : k < 32) {v : ℕ} (p : v ≡ rows c k) where
-      pub dense-over : 2147483648 ≤ v → (c2 : List ℕ) → v ≤ top → RowSays (dense_row x walk i slot r c) (why_dense_row x walk why i slot r c) x depth (Here (record { refusal = 6; node = i; row = r; needed = v; allowed = 2147483647 })) c2
+      pub dense_over : 2147483648 ≤ v → (c2 : List ℕ) → v ≤ top → RowSays (dense_row x walk i slot r c) (why_dense_row x walk why i slot r c) x depth (Here (record { refusal = 6; node = i; row = r; needed = v; allowed = 2147483647 })) c2
       unfolding dense_row why_dense_row why_dense_at why_dense_to dense_to found need unless fail
-      dense-over h c2 m =
+      dense_over h c2 m =
           let y : min v top ≡ v = min-eq_left m in
           rw (← e, lt-ltb k 32 l, ← p, le-ltb v (half 4) h) (record { row = ((λ z. absurd (omega (arith, z))), rw y refl) })
 
@@ -245,8 +245,8 @@ module _ (x : Join) (depth : ℕ) where
           go v y (end_over q e h) z = e
           go v y (all_ready q h) z = absurd (omega (arith, q, z))
 
-      pub run-clash : g ≡ 7 → {r v w m : ℕ} → r ≡ rows c i → v ≡ grown r n → w ≡ W → m ≡ most w → why_runs x walk why i slot n c ≡ record { refusal = g; node = i; row = 0; needed = v; allowed = m }
-      run-clash z {r} {v} {w} {m} p q k l = rw (z, cut r n q, p, l, k) (go (runs_ready x i n c).ans (why_runs x walk why i slot n c) (asked s) (sym d ∙ z))
+      pub run_clash : g ≡ 7 → {r v w m : ℕ} → r ≡ rows c i → v ≡ grown r n → w ≡ W → m ≡ most w → why_runs x walk why i slot n c ≡ record { refusal = g; node = i; row = 0; needed = v; allowed = m }
+      run_clash z {r} {v} {w} {m} p q k l = rw (z, cut r n q, p, l, k) (go (runs_ready x i n c).ans (why_runs x walk why i slot n c) (asked s) (sym d ∙ z))
         where
           go : (v : ℕ) (y : Why) → Asked v y → v ≡ 7 → y ≡ clash 7 i 0 (rows c i + n) (most W)
           go v y (no_ends_lem q h) z = absurd (omega (arith, q, z))

@@ -92,9 +92,9 @@ module _ (x : Keys) where
           other true p = absurd (q (e ∙ names_slot b n r j p l))
           other false p = p
 
-  pub marks-used : (e : ℕ) → ◌≡◌ {A = ℕ} (cond (some_below (names x e) x.len) 1 0) (cond (used x e) 1 0)
+  pub marks_used : (e : ℕ) → ◌≡◌ {A = ℕ} (cond (some_below (names x e) x.len) 1 0) (cond (used x e) 1 0)
   unfolding used
-  marks-used e = refl
+  marks_used e = refl
 
   -- ---- ranks
 

@@ -39,8 +39,8 @@ module _ (tree : Tree) (y : Tables) where
       → body_of tree y (t_list_view w t) i ≡ record { offsets = b.offsets; sizes = b.sizes; child = kid t (suc i) }
   list_body w t i b h = ap₂ (λ s r. record { offsets = s; sizes = r; child = kid t (suc i) }) h.0 h.1
 
-  lists-body : (w : ℕ) (t : Ty) (i : ℕ) (b : Body (t_list w t)) → ShowsData tree y (t_list w t) i b → body_of tree y (t_list w t) i ≡ record { offsets = b.offsets; child = kid t (suc i) }
-  lists-body w t i b h = ap (λ s. record { offsets = s; child = kid t (suc i) }) h.0
+  lists_body : (w : ℕ) (t : Ty) (i : ℕ) (b : Body (t_list w t)) → ShowsData tree y (t_list w t) i b → body_of tree y (t_list w t) i ≡ record { offsets = b.offsets; child = kid t (suc i) }
+  lists_body w t i b h = ap (λ s. record { offsets = s; child = kid t (suc i) }) h.0
 
   ends_same : (i : ℕ) (a : Array (List ℕ)) → ShowsNode y i (λ s. first_buffer y i ≡ s) a → array_with y (first_buffer y i) i ≡ a
   ends_same i a h = as_array h (first_buffer y i) ∙ ap (bodied a) h.body_is
@@ -71,7 +71,7 @@ module _ (tree : Tree) (y : Tables) where
       let b = a.body in
       let s = a.off + r in
       node_read (t_list w t) i a r h
-      (ap (λ b. slot_at (t_list w t) b s) (lists-body w t i b h.body_is)
+      (ap (λ b. slot_at (t_list w t) b s) (lists_body w t i b h.body_is)
       ∙ ap (λ rs. list (rows rs))
       (seg_same (read t (kid t (suc i))) (read t b.child) (item w b.offsets s) (item w b.offsets (suc s) - item w b.offsets s)
       (λ j q. shows_read t (suc i) b.child h.body_is.1 o.slots.child_rule (item w b.offsets s + j)
@@ -138,7 +138,7 @@ module _ (tree : Tree) (y : Tables) where
       let g = h.body_is.1 in
       let k = shows_obeys t (suc i) a.body.child g o.slots.child_rule in
       node_obeys (t_list w t) i a h o
-      (subst (λ b. SlotRule (t_list w t) (ok a.valid) b a.off a.len) (sym (lists-body w t i a.body h.body_is))
+      (subst (λ b. SlotRule (t_list w t) (ok a.valid) b a.off a.len) (sym (lists_body w t i a.body h.body_is))
       (record { offsets_rule_lem = subst (λ n. OffsetsRule w a.body.offsets n a.off a.len) (sym g.len_is) o.slots.offsets_rule_lem; child_rule = k }))
   shows_obeys (t_sparse ids nullable f) i a h o =
       let g = h.body_is.1 in

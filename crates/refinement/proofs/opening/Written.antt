@@ -86,8 +86,8 @@ module _ (x : Lent) (sound : plan_sound x.plan ≡ true) (values : (i : ℕ) →
       (λ c2. adds_each P false 0 0 (open_dictionary x) (nodes_of P) adds_dictionary (nodes_of P) 0 c2 (omega arith)))
 
 -- the counters before any row
-pub fine-zeros : Fine (replicate {A = ℕ} 96 0)
-fine-zeros = record { long = length-replicate {A = ℕ} 96 0; rows_top = λ i. no_rows 96 (3 * i) }
+pub fine_zeros : Fine (replicate {A = ℕ} 96 0)
+fine_zeros = record { long = length-replicate {A = ℕ} 96 0; rows_top = λ i. no_rows 96 (3 * i) }
   where
     no_rows : (n k : ℕ) → get_or (replicate {A = ℕ} n 0) k 0 ≤ top
     no_rows zero k = omega arith
@@ -144,7 +144,7 @@ module _ (formats schema sources : List ℕ) (x : Tables) (keep gaps : Bool) (pa
         omega arith
 
     adds : Added lent.plan false 0 0 (replicate 96 0) walk.counters walk.log
-    adds = (adds_opening lent stands.sound values (replicate 96 0)).added fine-zeros made.no_ground
+    adds = (adds_opening lent stands.sound values (replicate 96 0)).added fine_zeros made.no_ground
 
     -- the counters that it leaves are counters
     pub opening_fine : Fine answer.counters

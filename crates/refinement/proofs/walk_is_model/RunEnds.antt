@@ -317,8 +317,8 @@ module _ (x : Join) (k w : ℕ) (t : Ty) (i m : ℕ) (ss : ℕ → Column (t_run
       over_other : (j : ℕ) → (j ≡ suc i → ⊥) → SameAt c c μ Over j
       over_other = amend_other (suc i) 1 from end μ c
 
-      over-held : HoldsData x.plan (t_run_end w t) i (record { ends = over_end w (last_end w d.«data».ends + n) d.«data».ends; values = d.«data».values; gap = 2 }) c Over
-      over-held = (
+      over_held : HoldsData x.plan (t_run_end w t) i (record { ends = over_end w (last_end w d.«data».ends + n) d.«data».ends; values = d.«data».values; gap = 2 }) c Over
+      over_held = (
         h.data_are.0,
         amend_here (suc i) 1 from end μ ∙ ap₂ (λ a s. take a s ++ end) from_is h.data_are.1,
         held_same x.plan c c μ Over k t (suc (suc i)) d.«data».values g.worded.4 (λ j a b. over_other j (λ y. omega (arith, y))) h.data_are.2,
@@ -338,7 +338,7 @@ module _ (x : Join) (k w : ℕ) (t : Ty) (i m : ℕ) (ss : ℕ → Column (t_run
           rw (grow_is inner n c, last)
           (goes_need _ 12 c (le-leb 1 (rows c (suc i)) (omega (arith, h.data_are.0, f.some_run on)))
           (goes_guard (ltb (last_end w d.«data».ends + n) (half w)) (ltb (last_end w d.«data».ends + n) (half w)) 7 c (omega arith) refl
-          (λ q. goes_write _ (amend (suc i) 1 from end) c over_long (over-held, over_kept))))
+          (λ q. goes_write _ (amend (suc i) 1 from end) c over_long (over_held, over_kept))))
 
   fills : (inner : NullWalk) → Fills x inner t (suc (suc i)) m kids → FillsData x inner (t_run_end w t) i m ss
   fills inner go_on_lem n d c μ some fine keep small long h =

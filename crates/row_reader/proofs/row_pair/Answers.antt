@@ -33,25 +33,25 @@ module _ (formats schema : List ℕ) (x : Tables) (a n b m r s : ℕ) where
 
   -- ---- the ground
 
-  pub columns-ground : (g : ℕ) → g ≡ G → (g ≡ 0 → ⊥) → g ≡ rows_ground formats schema x a n b m r s
+  pub columns_ground : (g : ℕ) → g ≡ G → (g ≡ 0 → ⊥) → g ≡ rows_ground formats schema x a n b m r s
   unfolding rows_ground
-  columns-ground g e h = rw (ne_eqb G 0 (λ z. h (e ∙ z))) e
+  columns_ground g e h = rw (ne_eqb G 0 (λ z. h (e ∙ z))) e
 
-  pub no-row-a : G ≡ 0 → A ≤ r → 2 ≡ rows_ground formats schema x a n b m r s
+  pub no_row_a : G ≡ 0 → A ≤ r → 2 ≡ rows_ground formats schema x a n b m r s
   unfolding rows_ground
-  no-row-a z h = rw (eq-eqb G 0 z, le-ltb r A h)
+  no_row_a z h = rw (eq-eqb G 0 z, le-ltb r A h)
 
-  pub no-row-b : G ≡ 0 → r < A → B ≤ s → 2 ≡ rows_ground formats schema x a n b m r s
+  pub no_row_b : G ≡ 0 → r < A → B ≤ s → 2 ≡ rows_ground formats schema x a n b m r s
   unfolding rows_ground
-  no-row-b z p h = rw (eq-eqb G 0 z, lt-ltb r A p, le-ltb s B h)
+  no_row_b z p h = rw (eq-eqb G 0 z, lt-ltb r A p, le-ltb s B h)
 
-  pub no-numbers-a : G ≡ 0 → r < A → s < B → number_type (type_of formats schema a n) ≡ false → 10 ≡ rows_ground formats schema x a n b m r s
+  pub no_numbers_a : G ≡ 0 → r < A → s < B → number_type (type_of formats schema a n) ≡ false → 10 ≡ rows_ground formats schema x a n b m r s
   unfolding rows_ground
-  no-numbers-a z p q h = rw (eq-eqb G 0 z, lt-ltb r A p, lt-ltb s B q, h)
+  no_numbers_a z p q h = rw (eq-eqb G 0 z, lt-ltb r A p, lt-ltb s B q, h)
 
-  pub no-numbers-b : G ≡ 0 → r < A → s < B → number_type (type_of formats schema a n) ≡ true → number_type (type_of formats schema b m) ≡ false → 10 ≡ rows_ground formats schema x a n b m r s
+  pub no_numbers_b : G ≡ 0 → r < A → s < B → number_type (type_of formats schema a n) ≡ true → number_type (type_of formats schema b m) ≡ false → 10 ≡ rows_ground formats schema x a n b m r s
   unfolding rows_ground
-  no-numbers-b z p q o h = rw (eq-eqb G 0 z, lt-ltb r A p, lt-ltb s B q, o, h)
+  no_numbers_b z p q o h = rw (eq-eqb G 0 z, lt-ltb r A p, lt-ltb s B q, o, h)
 
   pub no_ground : G ≡ 0 → r < A → s < B → number_type (type_of formats schema a n) ≡ true → number_type (type_of formats schema b m) ≡ true → 0 ≡ rows_ground formats schema x a n b m r s
   unfolding rows_ground
@@ -62,8 +62,8 @@ module _ (formats schema : List ℕ) (x : Tables) (a n b m r s : ℕ) where
     pub accepted : G ≡ 0
     pub row_a : r < A
     pub row_b : s < B
-    pub numbers-a : number_type (type_of formats schema a n) ≡ true
-    pub numbers-b : number_type (type_of formats schema b m) ≡ true
+    pub numbers_a : number_type (type_of formats schema a n) ≡ true
+    pub numbers_b : number_type (type_of formats schema b m) ≡ true
 
   pub fine : rows_ground formats schema x a n b m r s ≡ 0 → Fine
   unfolding rows_ground
@@ -77,7 +77,7 @@ module _ (formats schema : List ℕ) (x : Tables) (a n b m r s : ℕ) where
       go true p true q true w k =
           let l = (and-eq-true_iff (ltb r A) (ltb s B)).0 q in
           let o = (and-eq-true_iff (number_type (type_of formats schema a n)) (number_type (type_of formats schema b m))).0 w in
-          record { accepted = eqb-true G 0 p; row_a = ltb-true r A l.0; row_b = ltb-true s B l.1; numbers-a = o.0; numbers-b = o.1 }
+          record { accepted = eqb-true G 0 p; row_a = ltb-true r A l.0; row_b = ltb-true s B l.1; numbers_a = o.0; numbers_b = o.1 }
 
   -- ---- the answer
 
@@ -97,8 +97,8 @@ module _ (formats schema : List ℕ) (x : Tables) (a n b m r s : ℕ) where
   same_answer la lb bytes z k l p q t f g =
       let e = fine z in
       let o = pair_none _ _ e.accepted in
-      let u = ap leaf_row_of p ∙ leaf_found formats schema x a n la bytes o.0 e.numbers-a r e.row_a in
-      let v = ap leaf_row_of q ∙ leaf_found formats schema x b m lb bytes o.1 e.numbers-b s e.row_b in
+      let u = ap leaf_row_of p ∙ leaf_found formats schema x a n la bytes o.0 e.numbers_a r e.row_a in
+      let v = ap leaf_row_of q ∙ leaf_found formats schema x b m lb bytes o.1 e.numbers_b s e.row_b in
       ap same.Told (same_told k l t f g ∙ ap₂ same_leaf u v) ∙ answers z
 
   -- WHAT IS TOLD: both rows read the same where it is true, and only there
@@ -111,17 +111,17 @@ module _ (formats schema : List ℕ) (x : Tables) (a n b m r s : ℕ) where
   unfolding same_row
   tells t e = go (eqb (rows_ground formats schema x a n b m r s) 0) refl e
     where
-      told-by : {u v : Bool} → same.Told u ≡ same.Told v → u ≡ v
-      told-by q = cc
+      told_by : {u v : Bool} → same.Told u ≡ same.Told v → u ≡ v
+      told_by q = cc
 
       go : (c : Bool) → eqb (rows_ground formats schema x a n b m r s) 0 ≡ c
           → cond c (same.Told (same_leaf (row_of formats schema x a n r) (row_of formats schema x b m s))) (same.Refused (rows_ground formats schema x a n b m r s)) ≡ same.Told t → Tells t
       go false p q = let y : ◌≡◌ {A = ℕ} 0 1 = cc in absurd (omega arith)
       go true p q =
           let f = fine (eqb-true _ 0 p) in
-          let w = told-by q in
+          let w = told_by q in
           record {
             unrefused = f;
-            yes = λ h. same_is _ _ (its_leaf formats schema x a n f.numbers-a r) (its_leaf formats schema x b m f.numbers-b s) (w ∙ h);
+            yes = λ h. same_is _ _ (its_leaf formats schema x a n f.numbers_a r) (its_leaf formats schema x b m f.numbers_b s) (w ∙ h);
             only = λ h. sym w ∙ same_self _ _ h;
           }

@@ -22,7 +22,7 @@ use Rattle.array_data.specs.Typed.{field_of}
 use Rattle.array_data.specs.lent_tables.Lent.{mask_of}
 use Rattle.array_data.proofs.lent_tables.Laws.{no, yes, and_left}
 use Rattle.source_rules.specs.kinds.Rows.{Ready, reach, view_rows, key_rows, sparse_rows, dense_rows}
-use Rattle.source_rules.proofs.kinds.Links.{same_field, view-is, keys_are, sparse_is, dense_is}
+use Rattle.source_rules.proofs.kinds.Links.{same_field, view_is, keys_are, sparse_is, dense_is}
 
 -- ---- data buffers
 
@@ -190,7 +190,7 @@ module _ (x : Tables) (k : ℕ) where
   table_holds h = leb-true _ _ (and_left (leb (2 * (place x k 7 + place x k 8)) (length x.buffers)) _ h)
 
   pub view_last : {r : Bool} → ((i : ℕ) → get_or x.body i 0 < 256) → Ready x k → buffers_in x k ≡ true → r ≡ view_rows x k → r ≡ view_rule x k
-  view_last small ready h e = rw (ready.inside, h, ready.masked) (e ∙ view-is x k small ready h)
+  view_last small ready h e = rw (ready.inside, h, ready.masked) (e ∙ view_is x k small ready h)
 
   -- the values of a dictionary are the next node
   pub dictionary_last : {r : Bool} (n : Number) {w bound values : ℕ} → Ready x k → width n ≡ w → bound ≡ min (limit n) values → values ≡ length_of x (k + 1)

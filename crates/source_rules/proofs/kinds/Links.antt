@@ -69,9 +69,9 @@ module _ (x : Tables) (k : ℕ) where
   -- ---- views
 
   module _ (small : (i : ℕ) → get_or x.body i 0 < 256) (ready : Ready x k) (h : buffers_in x k ≡ true) where
-    pub view-is : view_rows x k ≡ view_test (ok (valid_of x k)) (record { views = first_buffer x k; buffers = data_buffers x k }) (offset_of x k) (length_of x k)
+    pub view_is : view_rows x k ≡ view_test (ok (valid_of x k)) (record { views = first_buffer x k; buffers = data_buffers x k }) (offset_of x k) (length_of x k)
     unfolding view_rows
-    view-is = go (leb ((offset_of x k + length_of x k) * 16) (place x k 4)) refl (eqb (place x k 0) 0) refl
+    view_is = go (leb ((offset_of x k + length_of x k) * 16) (place x k 4)) refl (eqb (place x k 0) 0) refl
       where
         inside : place x k 3 + place x k 4 ≤ length x.body
         inside = first_in x k ready.inside

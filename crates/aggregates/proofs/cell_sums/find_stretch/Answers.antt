@@ -2,7 +2,7 @@
 use Rattle.std.proofs.Common.{◌≡◌, ◌+◌, true, sym, ◌∙◌, arith}
 use Rattle.aggregates.specs.cell_sums.Numbers.{Found}
 use Rattle.aggregates.specs.cell_sums.Steps.{until_of}
-use Rattle.aggregates.proofs.cell_sums.Laws.{bounded_by, run-flat, one-flat, flip, until_plain, until_run}
+use Rattle.aggregates.proofs.cell_sums.Laws.{bounded_by, run_flat, one_flat, flip, until_plain, until_run}
 use Rattle.aggregates.proofs.cell_sums.find_stretch.Goals as goal
 
 pub plain_cell-requires : goal.plain_cell-requires
@@ -10,7 +10,7 @@ plain_cell-requires c = (flip _ _ c.if-not-n.true, c.requires.1)
 
 pub returns-then-not-n : goal.returns-then-not-n
 returns-then-not-n c =
-    (omega arith, one-flat _ c.args.row _ c.plain_cell.ensures.0 c.plain_cell.ensures.1, until_plain _ c.args.n c.args.row (flip _ _ c.if-not-n.true))
+    (omega arith, one_flat _ c.args.row _ c.plain_cell.ensures.0 c.plain_cell.ensures.1, until_plain _ c.args.n c.args.row (flip _ _ c.if-not-n.true))
 
 pub stretch_at-requires : goal.stretch_at-requires
 stretch_at-requires c = c.requires.1.ends_held ((let fact : c.args.n.runs ≡ true = flip _ _ c.if-not-n.false in fact))
@@ -27,7 +27,7 @@ overflow_add-result-in-Run c = record { fits = omega (arith, ((let fact : Found 
 pub returns-in-Run : goal.returns-in-Run
 returns-in-Run c =
     let f = (let fact : Found c.args.body.now c.args.n c.args.row c.in-Run.run' c.in-Run.left = c.requires.1.found ((let fact : c.args.n.runs ≡ true = flip _ _ c.if-not-n.false in fact)) _ _ (sym c.stretch_at.ensures ∙ c.in-Run.is) in fact) in
-    (omega (arith, f.some_left), run-flat _ _ _ _ _ f.same c.cell_at.ensures.value (bounded_by _ c.cell_at.ensures.count_bound), (let fact : c.args.row + c.in-Run.left ≡ until_of c.args.body.now c.args.n c.args.row = until_run _ c.args.n c.args.row _ _ ((let fact : c.args.n.runs ≡ true = flip _ _ c.if-not-n.false in fact)) (sym c.stretch_at.ensures ∙ c.in-Run.is) in fact))
+    (omega (arith, f.some_left), run_flat _ _ _ _ _ f.same c.cell_at.ensures.value (bounded_by _ c.cell_at.ensures.count_bound), (let fact : c.args.row + c.in-Run.left ≡ until_of c.args.body.now c.args.n c.args.row = until_run _ c.args.n c.args.row _ _ ((let fact : c.args.n.runs ≡ true = flip _ _ c.if-not-n.false in fact)) (sym c.stretch_at.ensures ∙ c.in-Run.is) in fact))
 
 pub returns-in-Refused : goal.returns-in-Refused
 returns-in-Refused c =

@@ -16,9 +16,9 @@ module _ (body : List ℕ) (k : Cells) (slot : ℕ) (v : Bool) (e : v ≡ valid_
   unfolding cell_at
   no_cell h = rw (sym e ∙ h)
 
-  its-cell : v ≡ true → (p b : ℕ) → p ≡ pattern_at body k slot → b ≡ below_at k.top p → cell 1 p b ≡ cell_at body k slot
+  its_cell : v ≡ true → (p b : ℕ) → p ≡ pattern_at body k slot → b ≡ below_at k.top p → cell 1 p b ≡ cell_at body k slot
   unfolding cell_at
-  its-cell h p b f g = rw (sym e ∙ h, g, f)
+  its_cell h p b f g = rw (sym e ∙ h, g, f)
 
 pub returns-then-not-is_valid : goal.returns-then-not-is_valid
 returns-then-not-is_valid c =
@@ -26,4 +26,4 @@ returns-then-not-is_valid c =
 
 pub returns : goal.returns
 returns c =
-    record { value = its-cell _ c.args.c c.args.slot _ c.is_valid.ensures (flip _ _ c.if-not-is_valid.false-raw) _ _ c.read_pattern-bits.ensures c.count_below.ensures.0; count_bound = (omega arith, c.count_below.ensures.1, omega (arith, c.read_pattern-bits.type_inv)) }
+    record { value = its_cell _ c.args.c c.args.slot _ c.is_valid.ensures (flip _ _ c.if-not-is_valid.false-raw) _ _ c.read_pattern-bits.ensures c.count_below.ensures.0; count_bound = (omega arith, c.count_below.ensures.1, omega (arith, c.read_pattern-bits.type_inv)) }

@@ -14,16 +14,16 @@ module _ (w f o n d a b : ℕ) (small : f < 2 ^ 64) (e : f ≡ d) (p : o ≡ a) 
       go true z = omega (arith, h (ltb-true 0 (w * (a + b)) z))
       go false z = omega (arith, ltb-false 0 (w * (a + b)) z)
 
-  wide-one : f + w * o < 18446744073709551616
-  wide-one = omega (arith, wide_both, mul-add w o n)
+  wide_one : f + w * o < 18446744073709551616
+  wide_one = omega (arith, wide_both, mul-add w o n)
 
 pub overflow_mul-result : goal.overflow_mul-result
 overflow_mul-result c =
-    record { fits = omega (arith, wide-one c.args.width _ _ _ _ _ _ (omega (arith, c.place_at-from.type_inv)) c.place_at-from.ensures c.offset_at-skipped.ensures c.length_at-count.ensures c.requires.first_bound c.requires.fact) }
+    record { fits = omega (arith, wide_one c.args.width _ _ _ _ _ _ (omega (arith, c.place_at-from.type_inv)) c.place_at-from.ensures c.offset_at-skipped.ensures c.length_at-count.ensures c.requires.first_bound c.requires.fact) }
 
 pub overflow_add-result : goal.overflow_add-result
 overflow_add-result c =
-    record { fits = omega (arith, wide-one c.args.width _ _ _ _ _ _ (omega (arith, c.place_at-from.type_inv)) c.place_at-from.ensures c.offset_at-skipped.ensures c.length_at-count.ensures c.requires.first_bound c.requires.fact) }
+    record { fits = omega (arith, wide_one c.args.width _ _ _ _ _ _ (omega (arith, c.place_at-from.type_inv)) c.place_at-from.ensures c.offset_at-skipped.ensures c.length_at-count.ensures c.requires.first_bound c.requires.fact) }
 
 pub overflow_add-result-2 : goal.overflow_add-result-2
 overflow_add-result-2 c =

@@ -10,7 +10,7 @@ use Rattle.leaf_walk.specs.Join.{join}
 use Rattle.batch.specs.Batch.{batch_leaf}
 use Rattle.batch.specs.batch_walk.Fall.{home_by, takes_of, takes_from}
 use Rattle.batch.proofs.batch_walk.Falls.{stretch_whole}
-use Rattle.batch.proofs.batch_walk.Fields.{child_same, homes_same, positions-same, fields_none, fields_end, fields_turned, fields_bare, fields_stop, fields_more}
+use Rattle.batch.proofs.batch_walk.Fields.{child_same, homes_same, positions_same, fields_none, fields_end, fields_turned, fields_bare, fields_stop, fields_more}
 use Rattle.batch.proofs.dense_union.copy_children.Goals as goal
 
 pub overflow_add-k : goal.overflow_add-k
@@ -65,7 +65,7 @@ returns-then-g-ne0 c =
     let a = c.args in
     let l = c.loop-t in
     let y : 32 - l.t ≡ suc (32 - (l.t + 1)) = omega arith in
-    λ source. l.invariant.3 source c.copy_child-g.result _ _ (fields_stop (join a.plan.now a.parts.now a.lengths.now a.places.now a.body.now a.first source) a.i a.slot a.n a.write l.counters l.room c.end_of-last.result (32 - l.t) l.k y c.if-last-k.false c.end_of-next.ensures.value c.if-next-k.false c.is_owned.ensures c.if-not-is_owned.false-raw (child_same (λ b j d. batch_leaf (join a.plan.now a.parts.now a.lengths.now a.places.now a.body.now a.first source) l.k b j d) l.k a.n l.counters (homes_same (join a.plan.now a.parts.now a.lengths.now a.places.now a.body.now a.first source) a.i a.slot a.homes.now c.requires.homed.0 (λ q. (c.shared_slice_known-5-1.given q).fits) c.requires.homed.1) (positions-same (join a.plan.now a.parts.now a.lengths.now a.places.now a.body.now a.first source) a.i a.slot c.requires.homed.2) (c.copy_child-g.ensures source)) c.if-g-ne0.true)
+    λ source. l.invariant.3 source c.copy_child-g.result _ _ (fields_stop (join a.plan.now a.parts.now a.lengths.now a.places.now a.body.now a.first source) a.i a.slot a.n a.write l.counters l.room c.end_of-last.result (32 - l.t) l.k y c.if-last-k.false c.end_of-next.ensures.value c.if-next-k.false c.is_owned.ensures c.if-not-is_owned.false-raw (child_same (λ b j d. batch_leaf (join a.plan.now a.parts.now a.lengths.now a.places.now a.body.now a.first source) l.k b j d) l.k a.n l.counters (homes_same (join a.plan.now a.parts.now a.lengths.now a.places.now a.body.now a.first source) a.i a.slot a.homes.now c.requires.homed.0 (λ q. (c.shared_slice_known-5-1.given q).fits) c.requires.homed.1) (positions_same (join a.plan.now a.parts.now a.lengths.now a.places.now a.body.now a.first source) a.i a.slot c.requires.homed.2) (c.copy_child-g.ensures source)) c.if-g-ne0.true)
 
 pub overflow_add-t : goal.overflow_add-t
 overflow_add-t c = omega arith
@@ -81,7 +81,7 @@ loop-t-preserved c =
       omega arith,
       omega arith,
       omega arith,
-      λ source g2 c2 room2 q2. l.invariant.3 source g2 c2 room2 (fields_more (join a.plan.now a.parts.now a.lengths.now a.places.now a.body.now a.first source) a.i a.slot a.n a.write l.counters l.room c.end_of-last.result (32 - l.t) l.k y c.if-last-k.false c.end_of-next.ensures.value c.if-next-k.false c.is_owned.ensures c.if-not-is_owned.false-raw (child_same (λ b j d. batch_leaf (join a.plan.now a.parts.now a.lengths.now a.places.now a.body.now a.first source) l.k b j d) l.k a.n l.counters (homes_same (join a.plan.now a.parts.now a.lengths.now a.places.now a.body.now a.first source) a.i a.slot a.homes.now c.requires.homed.0 (λ q. (c.shared_slice_known-5-1.given q).fits) c.requires.homed.1) (positions-same (join a.plan.now a.parts.now a.lengths.now a.places.now a.body.now a.first source) a.i a.slot c.requires.homed.2) (c.copy_child-g.ensures source)) c.if-g-ne0.false q2),
+      λ source g2 c2 room2 q2. l.invariant.3 source g2 c2 room2 (fields_more (join a.plan.now a.parts.now a.lengths.now a.places.now a.body.now a.first source) a.i a.slot a.n a.write l.counters l.room c.end_of-last.result (32 - l.t) l.k y c.if-last-k.false c.end_of-next.ensures.value c.if-next-k.false c.is_owned.ensures c.if-not-is_owned.false-raw (child_same (λ b j d. batch_leaf (join a.plan.now a.parts.now a.lengths.now a.places.now a.body.now a.first source) l.k b j d) l.k a.n l.counters (homes_same (join a.plan.now a.parts.now a.lengths.now a.places.now a.body.now a.first source) a.i a.slot a.homes.now c.requires.homed.0 (λ q. (c.shared_slice_known-5-1.given q).fits) c.requires.homed.1) (positions_same (join a.plan.now a.parts.now a.lengths.now a.places.now a.body.now a.first source) a.i a.slot c.requires.homed.2) (c.copy_child-g.ensures source)) c.if-g-ne0.false q2),
     )
 
 pub returns : goal.returns

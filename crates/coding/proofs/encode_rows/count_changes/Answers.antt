@@ -28,8 +28,8 @@ module _ (body : List ℕ) (w : ℕ) (masked : Bool) (start mask bit : ℕ) wher
         λ e. ek ∙ ap count g ∙ ap length (sym (count_same (change_in body w masked start mask bit) q (d ∙ e))) ∙ ap count (sym f),
       )
 
-  valid-next : (r : ℕ) {b : Bool} → b ≡ valid_in body masked mask bit r → b ≡ valid_in body masked mask bit (r + 1 - 1)
-  valid-next r e = e ∙ ap (valid_in body masked mask bit) (let z : r ≡ r + 1 - 1 = omega arith in z)
+  valid_next : (r : ℕ) {b : Bool} → b ≡ valid_in body masked mask bit r → b ≡ valid_in body masked mask bit (r + 1 - 1)
+  valid_next r e = e ∙ ap (valid_in body masked mask bit) (let z : r ≡ r + 1 - 1 = omega arith in z)
 
 pub is_valid-a-requires : goal.is_valid-a-requires
 is_valid-a-requires c = let z = c.args in bit_held z.body.now z.w z.masked z.s.start z.s.mask z.s.bit z.m c.requires.1 0 c.requires.0
@@ -69,7 +69,7 @@ loop-r-preserved c =
     let l = c.loop-r in
     let z = c.args in
     let f = further z.body.now z.w z.masked z.s.start z.s.mask z.s.bit l.r l.k l.invariant.0 l.invariant.3 c.is_valid-b.ensures c.number_at-x.ensures c.number_at-y.ensures c.is_change.ensures l.invariant.4 in
-    let v = valid-next z.body.now z.w z.masked z.s.start z.s.mask z.s.bit l.r c.is_valid-b.ensures in
+    let v = valid_next z.body.now z.w z.masked z.s.start z.s.mask z.s.bit l.r c.is_valid-b.ensures in
     ⊎_elim
     (λ q. (omega arith, omega (arith, c.loop-r-test.true), omega (arith, q.k-is, l.invariant.2), v, q.k-is ∙ f.0 q.if-is_change.true))
     (λ q. (omega arith, omega (arith, c.loop-r-test.true), omega (arith, q.k-is, l.invariant.2), v, q.k-is ∙ f.1 q.if-is_change.false))

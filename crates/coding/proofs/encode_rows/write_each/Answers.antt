@@ -19,16 +19,16 @@ module _ (body : List ℕ) (w : ℕ) (masked : Bool) (start mask bit : ℕ) wher
   before r = those (change_in body w masked start mask bit) 0 r
 
   -- a run more is one of those that fit
-  one-fits : (e ends values goal size m k r : ℕ) → r < m → k ≡ length (before r) → Fits w masked e ends values goal size (length (last_rows body w masked start mask bit m))
+  one_fits : (e ends values goal size m k r : ℕ) → r < m → k ≡ length (before r) → Fits w masked e ends values goal size (length (last_rows body w masked start mask bit m))
       → Fits w masked e ends values goal size (k + 1)
-  one-fits e ends values goal size m k r l ek f =
+  one_fits e ends values goal size m k r l ek f =
       let g = those_grow (change_in body w masked start mask bit) r (m - 1) (omega arith) in
       let d = last_count body w masked start mask bit m (omega arith) in
       fewer_fit w masked e ends values goal size (length (last_rows body w masked start mask bit m)) k f (omega (arith, g, d, ek))
 
   -- with the last run they are all
-  all-counted : (k r m : ℕ) → r + 1 ≡ m → k ≡ length (before r) → k + 1 ≡ length (last_rows body w masked start mask bit m)
-  all-counted k r m em ek =
+  all_counted : (k r m : ℕ) → r + 1 ≡ m → k ≡ length (before r) → k + 1 ≡ length (last_rows body w masked start mask bit m)
+  all_counted k r m em ek =
       let f : m - 1 ≡ r = omega arith in
       let d = last_count body w masked start mask bit m (omega arith) in
       let g : length (before (m - 1)) ≡ length (before r) = ap (λ n. length (before n)) f in
@@ -101,7 +101,7 @@ pub write_run-requires : goal.write_run-requires
 write_run-requires c =
     let z = c.args in
     let l = c.loop-r in
-    let f = one-fits z.body.now z.w z.masked z.s.start z.s.mask z.s.bit z.e z.t.ends z.t.values z.t.mask (length z.room.now) z.m l.k l.r l.invariant.0 l.invariant.5 c.requires.fits in
+    let f = one_fits z.body.now z.w z.masked z.s.start z.s.mask z.s.bit z.e z.t.ends z.t.values z.t.mask (length z.room.now) z.m l.k l.r l.invariant.0 l.invariant.5 c.requires.fits in
     (c.requires.le_m.3.sized, c.requires.le_m.2, rw l.invariant.2 f, omega (arith, l.invariant.0, c.requires.le_m.1))
 
 pub overflow_add-k : goal.overflow_add-k
@@ -131,7 +131,7 @@ pub write_run-requires-2 : goal.write_run-requires-2
 write_run-requires-2 c =
     let z = c.args in
     let l = c.loop-r in
-    let f = one-fits z.body.now z.w z.masked z.s.start z.s.mask z.s.bit z.e z.t.ends z.t.values z.t.mask (length z.room.now) z.m l.k l.r l.invariant.0 l.invariant.5 c.requires.fits in
+    let f = one_fits z.body.now z.w z.masked z.s.start z.s.mask z.s.bit z.e z.t.ends z.t.values z.t.mask (length z.room.now) z.m l.k l.r l.invariant.0 l.invariant.5 c.requires.fits in
     (c.requires.le_m.3.sized, c.requires.le_m.2, rw l.invariant.2 f, omega (arith, l.invariant.0, c.requires.le_m.1))
 
 pub overflow_add-result : goal.overflow_add-result
@@ -144,4 +144,4 @@ pub returns : goal.returns
 returns c =
     let z = c.args in
     let l = c.loop-r in
-    let q : l.r + 1 ≡ z.m = omega (arith, c.loop-r-test.false, l.invariant.0) in record { room_value = ended z.body.now z.w z.masked z.s.start z.s.mask z.s.bit z.e z.t.ends z.t.values z.t.mask z.room.now l.k l.r z.m q l.invariant.5 l.invariant.3 l.invariant.4 l.invariant.6 c.write_run-2.ensures; value = all-counted z.body.now z.w z.masked z.s.start z.s.mask z.s.bit l.k l.r z.m q l.invariant.5 }
+    let q : l.r + 1 ≡ z.m = omega (arith, c.loop-r-test.false, l.invariant.0) in record { room_value = ended z.body.now z.w z.masked z.s.start z.s.mask z.s.bit z.e z.t.ends z.t.values z.t.mask z.room.now l.k l.r z.m q l.invariant.5 l.invariant.3 l.invariant.4 l.invariant.6 c.write_run-2.ensures; value = all_counted z.body.now z.w z.masked z.s.start z.s.mask z.s.bit l.k l.r z.m q l.invariant.5 }

@@ -25,10 +25,10 @@ module _ (w : ℕ) (masked : Bool) (e ends values mask k r : ℕ) (valid : Bool)
   unfolding run_written bits_written
   wrote a b c d h = h ∙ rw (d, c, b, a, add-one r)
 
-  wrote-two : {room1 room2 : List ℕ} {y : ℕ} → room1 ≡ splice (ends + k * e) (encode e (r + 1)) room → y ≡ cell_of valid x → room2 ≡ splice (values + k * w) (encode w y) room1
+  wrote_two : {room1 room2 : List ℕ} {y : ℕ} → room1 ≡ splice (ends + k * e) (encode e (r + 1)) room → y ≡ cell_of valid x → room2 ≡ splice (values + k * w) (encode w y) room1
       → masked ≡ false → room2 ≡ run_written w masked e ends values mask k r valid x room
   unfolding run_written bits_written
-  wrote-two a b c d = c ∙ rw (d, b, a, add-one r)
+  wrote_two a b c d = c ∙ rw (d, b, a, add-one r)
 
 pub overflow_mul-k : goal.overflow_mul-k
 overflow_mul-k c = let z = end_in_lem c.args.k c.requires.2 in omega (arith, z)
@@ -62,4 +62,4 @@ returns-then-masked c =
 pub returns-else-masked : goal.returns-else-masked
 returns-else-masked c =
     let z = c.args in
-    wrote-two z.w z.masked z.e z.t.ends z.t.values z.t.mask z.k z.r z.valid z.x z.room.now c.write_entry.ensures c.cell_of.ensures c.write_entry-2.ensures c.if-masked.false
+    wrote_two z.w z.masked z.e z.t.ends z.t.values z.t.mask z.k z.r z.valid z.x z.room.now c.write_entry.ensures c.cell_of.ensures c.write_entry-2.ensures c.if-masked.false

@@ -17,8 +17,8 @@ use Rattle.coding.proofs.expand_rows.write_each.Goals as goal
 
 module _ (body : List ℕ) (e ends run x m count : ℕ) (h : Ends body e ends run x m count) where
   -- the end of a run that is there
-  end-held : (q : ℕ) → q < count → ends + q * e + e ≤ length body
-  end-held q l = let z : q * e + e ≤ count * e = entry_end e l in omega (arith, h.holds)
+  end_held : (q : ℕ) → q < count → ends + q * e + e ≤ length body
+  end_held q l = let z : q * e + e ≤ count * e = entry_end e l in omega (arith, h.holds)
 
   first_at : At body e ends x m count 0 run
   first_at = record { some_run = h.some_run; above = λ k. omega (arith, h.above k) }
@@ -66,9 +66,9 @@ module _ (body : List ℕ) (w : ℕ) (masked : Bool) (start mask bit e ends x m 
       rw (lt-ltb r m l) (sym (rw (er, ea, ev, en, z, add-one q) refl))
 
   -- .. up to row u
-  step-to : (f g r q n u : ℕ) (room : List ℕ) {valid : Bool} {v : ℕ} {room1 : List ℕ} → r + n ≡ u → 0 < f → f - 1 ≡ g → r < m → n ≡ left body w masked start mask bit e ends x m values goal r q → valid ≡ valid_in body masked mask bit q → v ≡ number_in body w start q
+  step_to : (f g r q n u : ℕ) (room : List ℕ) {valid : Bool} {v : ℕ} {room1 : List ℕ} → r + n ≡ u → 0 < f → f - 1 ≡ g → r < m → n ≡ left body w masked start mask bit e ends x m values goal r q → valid ≡ valid_in body masked mask bit q → v ≡ number_in body w start q
       → room1 ≡ rows_written w masked values goal r n valid v room → from f r q room ≡ from g u (q + 1) room1
-  step-to f g r q n u room {valid} {v} {room1} z o eg l en ea ev er = step f g r q n room o eg l en ea ev er ∙ ap (λ y. from g y (q + 1) room1) z
+  step_to f g r q n u room {valid} {v} {room1} z o eg l en ea ev er = step f g r q n room o eg l en ea ev er ∙ ap (λ y. from g y (q + 1) room1) z
 
 few_runs : (q run r n m x y : ℕ) → r < m → x + r < y → q ≤ run + r → n ≡ min (y - (x + r)) (m - r) → q + 1 ≤ run + (r + n)
 few_runs q run r n m x y h a l e = omega arith
@@ -90,13 +90,13 @@ loop-r-init c =
     (omega arith, omega arith, omega arith, refl, first_at z.body.now z.e z.ends z.run z.x z.m z.count c.requires.ends.0, ap (λ f. from z.body.now z.w z.masked z.s.start z.s.mask z.s.bit z.e z.ends z.x z.m z.t.values z.t.mask f 0 z.run z.room.now) k)
 
 pub overflow_mul-q : goal.overflow_mul-q
-overflow_mul-q c = let k = (let fact : c.loop-r.r < c.args.m → c.args.ends + c.loop-r.q * c.args.e + c.args.e ≤ length c.args.body.now = λ l₁. let z = c.args in end-held z.body.now z.e z.ends z.run z.x z.m z.count c.requires.ends.0 c.loop-r.q (c.loop-r.invariant.4.some_run l₁) in fact) c.loop-r-test.true in omega (arith, k)
+overflow_mul-q c = let k = (let fact : c.loop-r.r < c.args.m → c.args.ends + c.loop-r.q * c.args.e + c.args.e ≤ length c.args.body.now = λ l₁. let z = c.args in end_held z.body.now z.e z.ends z.run z.x z.m z.count c.requires.ends.0 c.loop-r.q (c.loop-r.invariant.4.some_run l₁) in fact) c.loop-r-test.true in omega (arith, k)
 
 pub overflow_add-ends : goal.overflow_add-ends
-overflow_add-ends c = let k = (let fact : c.loop-r.r < c.args.m → c.args.ends + c.loop-r.q * c.args.e + c.args.e ≤ length c.args.body.now = λ l₁. let z = c.args in end-held z.body.now z.e z.ends z.run z.x z.m z.count c.requires.ends.0 c.loop-r.q (c.loop-r.invariant.4.some_run l₁) in fact) c.loop-r-test.true in omega (arith, k)
+overflow_add-ends c = let k = (let fact : c.loop-r.r < c.args.m → c.args.ends + c.loop-r.q * c.args.e + c.args.e ≤ length c.args.body.now = λ l₁. let z = c.args in end_held z.body.now z.e z.ends z.run z.x z.m z.count c.requires.ends.0 c.loop-r.q (c.loop-r.invariant.4.some_run l₁) in fact) c.loop-r-test.true in omega (arith, k)
 
 pub read_pattern-end-requires : goal.read_pattern-end-requires
-read_pattern-end-requires c = (c.requires.ends.0.sized, (let fact : c.loop-r.r < c.args.m → c.args.ends + c.loop-r.q * c.args.e + c.args.e ≤ length c.args.body.now = λ l₁. let z = c.args in end-held z.body.now z.e z.ends z.run z.x z.m z.count c.requires.ends.0 c.loop-r.q (c.loop-r.invariant.4.some_run l₁) in fact) c.loop-r-test.true)
+read_pattern-end-requires c = (c.requires.ends.0.sized, (let fact : c.loop-r.r < c.args.m → c.args.ends + c.loop-r.q * c.args.e + c.args.e ≤ length c.args.body.now = λ l₁. let z = c.args in end_held z.body.now z.e z.ends z.run z.x z.m z.count c.requires.ends.0 c.loop-r.q (c.loop-r.invariant.4.some_run l₁) in fact) c.loop-r-test.true)
 
 pub overflow_sub-end : goal.overflow_sub-end
 overflow_sub-end c = omega (arith, c.loop-r.invariant.4.above c.loop-r-test.true, c.read_pattern-end.ensures)
@@ -138,7 +138,7 @@ loop-r-preserved c =
       omega (arith, l.invariant.3),
       subst (λ y. At z.body.now z.e z.ends z.x z.m z.count y (l.q + 1)) v (next_at_lem z.body.now z.e z.ends z.run z.x z.m z.count c.requires.ends.0 l.r l.q (u - l.r) k l.invariant.4 n.0),
       l.invariant.5
-          ∙ step-to z.body.now z.w z.masked z.s.start z.s.mask z.s.bit z.e z.ends z.x z.m z.t.values z.t.mask (z.m - (l.q - z.run)) (z.m - (l.q + 1 - z.run)) l.r l.q (u - l.r) u l.room v (some_fuel z.m l.q z.run l.r k l.invariant.2) f k n.0 c.is_valid-valid.ensures c.number_at-v.ensures c.write_run.ensures,
+          ∙ step_to z.body.now z.w z.masked z.s.start z.s.mask z.s.bit z.e z.ends z.x z.m z.t.values z.t.mask (z.m - (l.q - z.run)) (z.m - (l.q + 1 - z.run)) l.r l.q (u - l.r) u l.room v (some_fuel z.m l.q z.run l.r k l.invariant.2) f k n.0 c.is_valid-valid.ensures c.number_at-v.ensures c.write_run.ensures,
     )
 
 pub shape_of-room : goal.shape_of-room

@@ -3,7 +3,7 @@ use mathlib.Core.Path.{refl, sym, ◌∙◌}
 use mathlib.Core.List.{[]}
 use native.Mathlib.Omega.{arith}
 use Rattle.leaf_walk.specs.Join.{join}
-use Rattle.explain.proofs.nulls.Laws.{dense_home, dense-over, dense_below}
+use Rattle.explain.proofs.nulls.Laws.{dense_home, dense_over, dense_below}
 use Rattle.explain.proofs.nulls.step_dense.Goals as goal
 
 pub returns-then-h-ge32 : goal.returns-then-h-ge32
@@ -20,7 +20,7 @@ overflow_sub-result-then-grow-gt-POSITIONS c = omega arith
 pub returns-then-grow-gt-POSITIONS : goal.returns-then-grow-gt-POSITIONS
 returns-then-grow-gt-POSITIONS c =
     let a = c.args in
-    λ parts depth. dense-over (join a.plan.now parts [] [] [] 0 0) depth a.i a.n a.counters.now c.null_home-h.ensures.value c.if-h-ge32.false c.rows_of-child.ensures c.at_most_far.ensures c.grow.ensures c.if-grow-gt-POSITIONS.true c.first_position-position.ensures (omega arith) refl refl
+    λ parts depth. dense_over (join a.plan.now parts [] [] [] 0 0) depth a.i a.n a.counters.now c.null_home-h.ensures.value c.if-h-ge32.false c.rows_of-child.ensures c.at_most_far.ensures c.grow.ensures c.if-grow-gt-POSITIONS.true c.first_position-position.ensures (omega arith) refl refl
 
 pub returns : goal.returns
 returns c =

@@ -7,7 +7,7 @@ use native.Mathlib.Numerals.{add-one}
 use Rattle.walk.specs.Copy.{copy_walk}
 use Rattle.leaf_walk.specs.Join.{join}
 use Rattle.extend.proofs.Laws.{runs_ready_lem, runs_wide, runs_inside}
-use Rattle.explain.proofs.stop_walks.Nodes.{ends_low, ends_wide, run_none, end_wide_lem, run-clash, run_foreign, run_values, run_past}
+use Rattle.explain.proofs.stop_walks.Nodes.{ends_low, ends_wide, run_none, end_wide_lem, run_clash, run_foreign, run_values, run_past}
 use Rattle.explain.proofs.stop_walks.Laws.{two_more}
 use Rattle.explain.proofs.runs.step_run.Goals as goal
 
@@ -32,7 +32,7 @@ largest-requires c =
 pub returns-then-g-eq-RUN_END : goal.returns-then-g-eq-RUN_END
 returns-then-g-eq-RUN_END c =
     let a = c.args in
-    λ parts source depth. run-clash (join a.plan.now parts a.lengths.now a.places.now a.body.now a.first source) depth a.i a.slot a.n a.counters.now c.if-n-eq0.false (c.runs_ready-g.ensures parts [] source false).answer c.if-g-eq-RUN_END.true c.rows_of.ensures c.grow.ensures (rw (add-one a.i) at c.width_at.ensures) c.largest.ensures
+    λ parts source depth. run_clash (join a.plan.now parts a.lengths.now a.places.now a.body.now a.first source) depth a.i a.slot a.n a.counters.now c.if-n-eq0.false (c.runs_ready-g.ensures parts [] source false).answer c.if-g-eq-RUN_END.true c.rows_of.ensures c.grow.ensures (rw (add-one a.i) at c.width_at.ensures) c.largest.ensures
 
 pub returns-then-g-ne0 : goal.returns-then-g-ne0
 returns-then-g-ne0 c =

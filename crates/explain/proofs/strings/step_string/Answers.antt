@@ -7,7 +7,7 @@ use Rattle.room_writes.proofs.Bytes.{width_in_lem}
 use Rattle.leaf_walk.specs.Join.{join}
 use Rattle.leaf_walk.proofs.Laws.{rows_in_lem}
 use Rattle.leaf_walk.proofs.variable_size.Laws.{fits_is}
-use Rattle.explain.proofs.stop_walks.Nodes.{string_none, string_foreign, string_fits, string-clash, string_falls}
+use Rattle.explain.proofs.stop_walks.Nodes.{string_none, string_foreign, string_fits, string_clash, string_falls}
 use Rattle.explain.proofs.strings.step_string.Goals as goal
 
 pub returns-then-n-eq0 : goal.returns-then-n-eq0
@@ -56,7 +56,7 @@ returns-in-Fits c =
 pub returns-in-Over : goal.returns-in-Over
 returns-in-Over c =
     let a = c.args in
-    λ parts lengths source depth. string-clash (join a.plan.now parts lengths a.places.now a.body.now a.first source) depth a.w a.i a.slot a.n a.counters.now c.if-n-eq0.false c.place-at.ensures (c.rows_in.ensures a.plan.now parts lengths a.places.now a.first source) c.if-not-rows_in.false-raw refl c.bytes_of-old.ensures c.offsets.ensures c.in-Over.is c.largest.ensures
+    λ parts lengths source depth. string_clash (join a.plan.now parts lengths a.places.now a.body.now a.first source) depth a.w a.i a.slot a.n a.counters.now c.if-n-eq0.false c.place-at.ensures (c.rows_in.ensures a.plan.now parts lengths a.places.now a.first source) c.if-not-rows_in.false-raw refl c.bytes_of-old.ensures c.offsets.ensures c.in-Over.is c.largest.ensures
 
 pub returns-in-Falls : goal.returns-in-Falls
 returns-in-Falls c =

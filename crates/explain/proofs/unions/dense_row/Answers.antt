@@ -3,7 +3,7 @@ use mathlib.Core.Path.{refl}
 use native.Mathlib.Omega.{arith}
 use native.Mathlib.Numerals.{add-one}
 use Rattle.leaf_walk.specs.Join.{join}
-use Rattle.explain.proofs.stop_walks.Nodes.{child_is, dense_none, dense-over, dense_into}
+use Rattle.explain.proofs.stop_walks.Nodes.{child_is, dense_none, dense_over, dense_into}
 use Rattle.explain.proofs.unions.dense_row.Goals as goal
 
 pub overflow_add-at : goal.overflow_add-at
@@ -28,7 +28,7 @@ pub returns-then-child-ge2147483648 : goal.returns-then-child-ge2147483648
 returns-then-child-ge2147483648 c =
     let a = c.args in
     let x = join a.plan.now a.parts.now a.lengths.now a.places.now a.body.now a.first a.source in
-    dense-over x a.depth a.i a.slot a.r a.counters.now (child_is x a.depth a.i a.slot a.r c.place.ensures refl c.end_of.ensures.value (add-one a.i) c.child_with-k.ensures.value) c.if-k-ge32.false c.rows_of-child.ensures c.if-child-ge2147483648.true a.counters.now (omega arith)
+    dense_over x a.depth a.i a.slot a.r a.counters.now (child_is x a.depth a.i a.slot a.r c.place.ensures refl c.end_of.ensures.value (add-one a.i) c.child_with-k.ensures.value) c.if-k-ge32.false c.rows_of-child.ensures c.if-child-ge2147483648.true a.counters.now (omega arith)
 
 pub entry_at-position-requires : goal.entry_at-position-requires
 entry_at-position-requires c = record { w_value = λ z. absurd (z refl); k_in_bounds = omega (arith, c.place-2.ensures, c.requires.fact.1) }

@@ -19,18 +19,18 @@ module _ (body : List ℕ) (from w : ℕ) (ranks : List ℕ) (count j to : ℕ) 
   entry_in_lem : from + w * suc j ≤ length body
   entry_in_lem = omega (arith, mul-le-mul_left {m = suc j} {n = count} w (omega arith))
 
-  more-in : to + length (chosen body from w (risen ranks) (suc j)) ≤ length old
-  more-in = omega (arith, chosen_up body from w (risen ranks) (suc j) count (omega arith))
+  more_in : to + length (chosen body from w (risen ranks) (suc j)) ≤ length old
+  more_in = omega (arith, chosen_up body from w (risen ranks) (suc j) count (omega arith))
 
   -- an entry in use has room
   room_for : risen ranks j ≡ true → to + length (chosen body from w (risen ranks) j) + w ≤ length old
-  room_for h = omega (arith, more-in, length_more body from w (risen ranks) j entry_in_lem h)
+  room_for h = omega (arith, more_in, length_more body from w (risen ranks) j entry_in_lem h)
 
   step_yes : ((i : ℕ) → get_or body i 0 < 256) → risen ranks j ≡ true → {o v : ℕ} {room' : List ℕ} → o ≡ to + length (chosen body from w (risen ranks) j) → room ≡ splice to (chosen body from w (risen ranks) j) old
       → v ≡ entry w body from j → room' ≡ splice o (encode w v) room → (o + w ≡ to + length (chosen body from w (risen ranks) (j + 1))) × (room' ≡ splice to (chosen body from w (risen ranks) (j + 1)) old)
   step_yes small h {o} {v} {room'} p q e r =
       rw (add-one j)
-      ((omega (arith, length_more body from w (risen ranks) j entry_in_lem h), chosen_step body from w (risen ranks) j entry_in_lem small h to o v room room' old more-in p q e r))
+      ((omega (arith, length_more body from w (risen ranks) j entry_in_lem h), chosen_step body from w (risen ranks) j entry_in_lem small h to o v room room' old more_in p q e r))
 
   step_no : risen ranks j ≡ false → {o : ℕ} → o ≡ to + length (chosen body from w (risen ranks) j) → room ≡ splice to (chosen body from w (risen ranks) j) old
       → (o ≡ to + length (chosen body from w (risen ranks) (j + 1))) × (room ≡ splice to (chosen body from w (risen ranks) (j + 1)) old)

@@ -8,7 +8,7 @@ use lib.ListN.{length-set}
 use Rattle.anew.specs.entries.Used.{some_below}
 use Rattle.model.proofs.Bits.{get_d_replicate}
 use Rattle.reclaim.specs.used_entries.Keys.{keys, names}
-use Rattle.reclaim.proofs.used_entries.Laws.{mark_step, marks-used}
+use Rattle.reclaim.proofs.used_entries.Laws.{mark_step, marks_used}
 use Rattle.reclaim.proofs.used_entries.marks_of.Goals as goal
 
 pub loop-r-init : goal.loop-r-init
@@ -31,4 +31,4 @@ returns c =
     let x = keys a.body.now a.w a.at a.masked a.mask a.off a.n in
     let l = c.loop-r in
     let e : l.r ≡ a.n = omega arith in
-    λ j h. l.invariant.2 j h ∙ ap (λ (z : ℕ). cond (some_below (names x (a.base + j)) z) 1 0) e ∙ marks-used x (a.base + j)
+    λ j h. l.invariant.2 j h ∙ ap (λ (z : ℕ). cond (some_below (names x (a.base + j)) z) 1 0) e ∙ marks_used x (a.base + j)
