@@ -1,2 +1,3 @@
 -- The definitions that the contracts of `number` cite.
 pub mod Number
+pub mod Sizes

@@ -1,0 +1,6 @@
+use native.Mathlib.Omega.{arith}
+use Rattle.number.proofs.Laws.{halves}
+use Rattle.number.proofs.U64Unsigned.read.Goals as goal
+
+pub returns : goal.returns
+returns c = omega (arith, halves 4 4 c.args.at c.args.s.now)
