@@ -208,11 +208,11 @@ impl Signed for i8 {
     ghost whole = { λ x. x };
 
     fn from_pattern(p: u8) -> i8 {
-        p.cast_signed()
+        u8::cast_signed(p)
     }
 
     fn pattern(self) -> u8 {
-        self.cast_unsigned()
+        i8::cast_unsigned(self)
     }
 }
 
@@ -222,11 +222,11 @@ impl Signed for i16 {
     ghost whole = { λ x. x };
 
     fn from_pattern(p: u16) -> i16 {
-        p.cast_signed()
+        u16::cast_signed(p)
     }
 
     fn pattern(self) -> u16 {
-        self.cast_unsigned()
+        i16::cast_unsigned(self)
     }
 }
 
@@ -236,11 +236,11 @@ impl Signed for i32 {
     ghost whole = { λ x. x };
 
     fn from_pattern(p: u32) -> i32 {
-        p.cast_signed()
+        u32::cast_signed(p)
     }
 
     fn pattern(self) -> u32 {
-        self.cast_unsigned()
+        i32::cast_unsigned(self)
     }
 }
 
@@ -250,11 +250,11 @@ impl Signed for i64 {
     ghost whole = { λ x. x };
 
     fn from_pattern(p: u64) -> i64 {
-        p.cast_signed()
+        u64::cast_signed(p)
     }
 
     fn pattern(self) -> u64 {
-        self.cast_unsigned()
+        i64::cast_unsigned(self)
     }
 }
 

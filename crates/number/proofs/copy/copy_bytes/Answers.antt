@@ -1,62 +1,13 @@
--- `copy::copy_bytes` meets its contract. Assumes nothing.
-use mathlib.Core.Path.{◌≡◌, refl, sym, ◌∙◌}
-use Prim.Native.Nat.{◌+◌, ◌-◌}
-use native.Mathlib.Omega.{arith}
-use Rattle.number.proofs.Laws.{splice_nil}
-use Rattle.number.proofs.copy.Laws.{copy_copy}
+use Rattle.std.proofs.Common.{◌≡◌, ◌+◌, ◌-◌, ◌∙◌, take, drop, ap, arith, length-drop}
+use Rattle.std.proofs.lemmas.List.{length-take-le}
+use Rattle.number.proofs.copy.Laws.{part_written}
 use Rattle.number.proofs.copy.copy_bytes.Goals as goal
-
-pub shape_of-room-then-n-lt1024 : goal.shape_of-room-then-n-lt1024
-shape_of-room-then-n-lt1024 c = omega arith
-
-pub returns-then-n-lt1024 : goal.returns-then-n-lt1024
-returns-then-n-lt1024 c = c.copy_short.ensures
-
-pub loop-i-init : goal.loop-i-init
-loop-i-init c = (omega arith, refl, sym (splice_nil _ _))
-
-pub overflow_sub-n : goal.overflow_sub-n
-overflow_sub-n c = omega arith
-
-pub overflow_add-at : goal.overflow_add-at
-overflow_add-at c = omega arith
-
-pub overflow_add-from : goal.overflow_add-from
-overflow_add-from c = omega arith
-
-pub copy_8192-requires : goal.copy_8192-requires
-copy_8192-requires c = omega arith
-
-pub overflow_add-i : goal.overflow_add-i
-overflow_add-i c = omega arith
-
-pub loop-i-smaller : goal.loop-i-smaller
-loop-i-smaller c = omega arith
-
-pub loop-i-preserved : goal.loop-i-preserved
-loop-i-preserved c =
-    let z = c.args in
-    let l = c.loop-i in (
-      omega arith,
-      omega arith,
-      c.copy_8192.ensures ∙ rw l.invariant.2 (copy_copy z.room.now z.body.now z.at z.from l.i 8192 (omega arith) (omega arith)),
-    )
-
-pub overflow_add-at-2 : goal.overflow_add-at-2
-overflow_add-at-2 c = omega arith
-
-pub overflow_add-from-2 : goal.overflow_add-from-2
-overflow_add-from-2 c = omega arith
-
-pub overflow_sub-n-2 : goal.overflow_sub-n-2
-overflow_sub-n-2 c = omega arith
-
-pub shape_of-room : goal.shape_of-room
-shape_of-room c = omega arith
 
 pub returns : goal.returns
 returns c =
     let z = c.args in
-    let l = c.loop-i in
-    let e : l.i + (z.n - l.i) ≡ z.n = omega arith in
-    c.copy_middle.ensures ∙ rw l.invariant.2 (rw e at (copy_copy z.room.now z.body.now z.at z.from l.i (z.n - l.i) (omega arith) (omega arith)))
+    let d = drop z.from z.body.now in
+    let m : z.from + z.n - z.from ≡ z.n = omega arith in
+    part_written z.room.now (take z.n d) c.copy_from_slice.new.self z.at z.n
+    (length-take-le z.n d (simp length-drop (omega arith)))
+    (c.copy_from_slice.ensures.after ∙ ap (λ k. take k d) m)
