@@ -6,6 +6,8 @@
 ghost use Rattle.std.specs.Prelude.{◌≡◌, ◌+◌, ◌*◌, ◌-◌, ◌%◌, ◌^◌, ◌≤◌, ◌<◌, min, length, replicate, get_or};
 ghost use Rattle.bits.specs.Bits.{digits, bits, zeros, bits_at, put_bits};
 
+use number::Unsigned;
+
 // The lowest k bits of x.
 fn low(x: u16, k: usize) -> u16
     requires { k ≤ 8 }
@@ -20,9 +22,9 @@ fn field(body: &[u8], q: usize, j: usize, k: usize) -> u8
     ensures { (result < 2 ^ k) × (digits k result ≡ bits_at (8 * q + j) k body.now) }
 {
     if j + k <= 8 {
-        return low((number::read_u8(body, q) >> j) as u16, k) as u8;
+        return low((u8::read(body, q) >> j) as u16, k) as u8;
     }
-    low(number::read_u16(body, q) >> j, k) as u8
+    low(u16::read(body, q) >> j, k) as u8
 }
 
 // The k digits of x into the byte d, above its lowest h bits; zeros above them.
@@ -58,7 +60,7 @@ fn first(h: usize, n: usize) -> usize
     requires { h < 8 }
     ensures { result ≡ min n (8 - h) }
 {
-    if n < 8 - h { n } else { 8 - h }
+    n.min(8 - h)
 }
 
 // n bits from the bit j of the byte q on into room at the byte d, eight at a time. How many of them are 0.
@@ -68,11 +70,9 @@ fn copy_fields(room: &mut [u8], d: usize, body: &[u8], q: usize, j: usize, n: us
     ensures value { result ≡ zeros (bits_at (8 * q + j) n body.now) }
 {
     let mut none = 0;
-    let mut i = 0;
-    while i < n {
-        let k = first(0, n - i);
-        none += copy_field(room, d + i / 8, 0, body, q + i / 8, j, k);
-        i += k;
+    for i in 0..n.div_ceil(8) {
+        let k = first(0, n - 8 * i);
+        none += copy_field(room, d + i, 0, body, q + i, j, k);
     }
     none
 }
@@ -84,12 +84,10 @@ fn copy_words(room: &mut [u8], d: usize, body: &[u8], q: usize, m: usize) -> usi
     ensures value { result ≡ zeros (bits_at (8 * q) (64 * m) body.now) }
 {
     let mut none = 0;
-    let mut i = 0;
-    while i < m {
-        let x = number::read_u64(body, q + 8 * i);
-        number::write_u64(room, d + 8 * i, x);
+    for i in 0..m {
+        let x = u64::read(body, q + 8 * i);
+        x.write(room, d + 8 * i);
         none += 64 - u64::count_ones(x) as usize;
-        i += 1;
     }
     none
 }
@@ -103,14 +101,12 @@ fn shift_words(room: &mut [u8], d: usize, body: &[u8], q: usize, j: usize, m: us
     let k = 8 - j;
     let p = 1u64 << k;
     let mut none = 0;
-    let mut i = 0;
-    while i < m {
-        let lo = (number::read_u64(body, q + 8 * i) >> j) % p;
-        let hi = number::read_u64(body, q + 8 * i + 1) << k;
+    for i in 0..m {
+        let lo = (u64::read(body, q + 8 * i) >> j) % p;
+        let hi = u64::read(body, q + 8 * i + 1) << k;
         let x = lo + hi;
-        number::write_u64(room, d + 8 * i, x);
+        x.write(room, d + 8 * i);
         none += 64 - u64::count_ones(x) as usize;
-        i += 1;
     }
     none
 }
@@ -240,11 +236,9 @@ fn count_words(body: &[u8], q: usize, m: usize) -> usize
     ensures { result ≡ zeros (bits_at (8 * q) (64 * m) body.now) }
 {
     let mut none = 0;
-    let mut i = 0;
-    while i < m {
-        let x = number::read_u64(body, q + 8 * i);
+    for i in 0..m {
+        let x = u64::read(body, q + 8 * i);
         none += 64 - u64::count_ones(x) as usize;
-        i += 1;
     }
     none
 }
@@ -255,12 +249,10 @@ fn count_fields(body: &[u8], q: usize, j: usize, n: usize) -> usize
     ensures { result ≡ zeros (bits_at (8 * q + j) n body.now) }
 {
     let mut none = 0;
-    let mut i = 0;
-    while i < n {
-        let k = first(0, n - i);
-        let x = field(body, q + i / 8, j, k);
+    for i in 0..n.div_ceil(8) {
+        let k = first(0, n - 8 * i);
+        let x = field(body, q + i, j, k);
         none += k - u8::count_ones(x) as usize;
-        i += k;
     }
     none
 }

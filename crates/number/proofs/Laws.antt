@@ -1,11 +1,11 @@
 -- Laws of `number`, `encode` and `splice`, over every width. Assumes nothing.
-use mathlib.Core.Path.{◌≡◌, refl, sym, ap, ap₂, ◌∙◌}
+use mathlib.Core.Path.{◌≡◌, refl, sym, ap}
 use Prim.Native.Nat.{ℕ, zero, suc, ◌+◌, ◌*◌, ◌/◌, ◌%◌, ◌^◌, ◌≤◌, ◌<◌}
 use native.Mathlib.Nat.{add-zero, suc-add, zero-add, add_assoc, mul-zero, one-mul, pow-zero, pow-suc, pow-succ', one-le-pow, mod-one, div-one, mod-eq_of_lt, div-div-eq-div-mul}
 use native.Mathlib.Numerals.{add-one}
 use native.Mathlib.Omega.{arith}
 use mathlib.Core.List.{List, [], ◌∷◌, ◌++◌, append_assoc, append-nil}
-use lib.ListN.{length, take, drop, get_or, set, length-append, length-take, length-drop, take-append-drop}
+use lib.ListN.{length, take, drop, get_or, set, length-append, length-drop, take-append-drop}
 use lib.Seq.{drop-drop, drop-cons, set_split, append_snoc, set_at, take_at, drop_at, length-take-le, drop-append-add}
 use lib.Arith.{mod-mul, digits_mod, digits_div}
 use Rattle.number.specs.Number.{number, encode, splice}

@@ -1,15 +1,14 @@
 -- Signed numbers by their patterns, at every width. Assumes nothing.
-use mathlib.Core.Path.{◌≡◌, refl, sym, ap, ◌∙◌, subst}
-use mathlib.Core.Bool.{Bool, true, false, cond}
-use Prim.Native.Nat.{ℕ, zero, suc, ◌+◌, ◌-◌, ◌^◌, ◌≤◌, ◌<◌}
+use mathlib.Core.Path.{◌≡◌, refl, ap, ◌∙◌}
+use mathlib.Core.Bool.{true, false}
+use Prim.Native.Nat.{ℕ, zero, suc, ◌-◌, ◌^◌, ◌≤◌, ◌<◌}
 use native.Mathlib.Nat.{zero-add}
 use native.Mathlib.Omega.{arith}
-use lib.IntN.{ℤ, pos, negsuc, ◌+ℤ◌, ◌-ℤ◌, sub_ℕ}
-use lib.Dec.{T, ltb}
-use lib.Signed.{lt_z, mag}
-use borrow.Author.Tests.{lt-ltb, le-ltb, ltb-true, ltb-false}
+use lib.IntN.{ℤ, pos, negsuc, ◌-ℤ◌}
+use lib.Signed.{lt_z}
+use borrow.Author.Tests.{le-ltb, ltb-true}
 use mir.Syntax.{Width}
-use mir.Val.{Fits, SFits, hbits, bits, to_z, of_z, sel}
+use mir.Val.{Fits, SFits, hbits, bits, to_z, of_z}
 use mir.ValLaws.{to_z-of_z, to_z_pos, to_z-Fits, of_z-to_z}
 
 -- a number below 0, by its pattern

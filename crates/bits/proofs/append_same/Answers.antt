@@ -19,18 +19,12 @@ returns-then-h-eq0 c =
     let e : 8 * (z.at + z.b / 8) ≡ 8 * z.at + z.b = omega arith in
     c.append_aligned.ensures ∙ rw e
 
-pub put-requires : goal.put-requires
-put-requires c = omega arith
-
 pub returns-then-k-n : goal.returns-then-k-n
 returns-then-k-n c =
     let z = c.args in
     let e : 8 * (z.at + z.b / 8) + z.b % 8 ≡ 8 * z.at + z.b = omega arith in
     let f : c.first-k.result ≡ z.n = c.if-k-n.true in
     c.put.ensures ∙ rw (c.same-x.ensures.1, e, f)
-
-pub append_aligned-requires-2 : goal.append_aligned-requires-2
-append_aligned-requires-2 c = omega arith
 
 pub returns : goal.returns
 returns c =

@@ -20,9 +20,6 @@ returns-then-h-eq0 c =
     let f : 8 * (z.from + z.a / 8) + z.a % 8 ≡ 8 * z.from + z.a = omega arith in
     record { room_after = c.copy_aligned.ensures.room_after ∙ rw (e, f); value = c.copy_aligned.ensures.value ∙ rw f }
 
-pub copy_field-head-requires : goal.copy_field-head-requires
-copy_field-head-requires c = omega arith
-
 pub returns-then-k-n : goal.returns-then-k-n
 returns-then-k-n c =
     let z = c.args in
@@ -30,9 +27,6 @@ returns-then-k-n c =
     let f : 8 * (z.from + z.a / 8) + z.a % 8 ≡ 8 * z.from + z.a = omega arith in
     let g : c.first-k.result ≡ z.n = c.if-k-n.true in
     record { room_after = c.copy_field-head.ensures.room_after ∙ rw (e, f, g); value = c.copy_field-head.ensures.value ∙ rw (f, g) }
-
-pub copy_aligned-rest-requires : goal.copy_aligned-rest-requires
-copy_aligned-rest-requires c = omega arith
 
 pub overflow_add-result : goal.overflow_add-result
 overflow_add-result c =

@@ -1,11 +1,7 @@
 use mathlib.Core.Path.{◌≡◌}
-use Prim.Native.Nat.{◌≤◌, ◌<◌, ◌+◌, ◌*◌, ◌-◌, ◌%◌}
-use lib.ListN.{length}
+use Prim.Native.Nat.{◌≤◌, ◌+◌, ◌*◌, min}
 use Rattle.bits.specs.Bits.{zeros, bits_at, put_bits}
 use Rattle.bits.proofs.copy_fields.Given as goal
 
 abbrev pub invariant-loop-i : goal.invariant-loop-i
-invariant-loop-i l = (l.i ≤ l.n) × (length l.room ≡ length l.initial.room) × (l.room ≡ put_bits (8 * l.d) (bits_at (8 * l.q + l.j) l.i l.body) l.initial.room) × (l.none ≡ zeros (bits_at (8 * l.q + l.j) l.i l.body)) × (l.none ≤ l.i) × (l.i < l.n → l.i % 8 ≡ 0)
-
-abbrev pub decreases-loop-i : goal.decreases-loop-i
-decreases-loop-i l = l.n - l.i
+invariant-loop-i l = (l.room ≡ put_bits (8 * l.d) (bits_at (8 * l.q + l.j) (min l.n (8 * l.i)) l.body) l.initial.room) × (l.none ≡ zeros (bits_at (8 * l.q + l.j) (min l.n (8 * l.i)) l.body)) × (l.none ≤ 8 * l.i)

@@ -13,12 +13,6 @@ returns-then-k-n c =
     let g : c.first-k.result ≡ z.n = c.if-k-n.true in
     c.count_fields-head.ensures ∙ rw (f, g)
 
-pub count_words-words-requires : goal.count_words-words-requires
-count_words-words-requires c = omega arith
-
-pub count_fields-rest-requires : goal.count_fields-rest-requires
-count_fields-rest-requires c = omega arith
-
 pub overflow_add-result : goal.overflow_add-result
 overflow_add-result c =
     let z = c.args in

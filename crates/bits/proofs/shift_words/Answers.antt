@@ -1,5 +1,5 @@
 -- `bits::shift_words` meets its contract: room has the bits of the first i words. Assumes nothing.
-use mathlib.Core.Path.{◌≡◌, refl, ◌∙◌}
+use mathlib.Core.Path.{◌≡◌, ◌∙◌}
 use Prim.Native.Nat.{◌+◌, ◌*◌, ◌-◌, ◌/◌, ◌%◌, ◌^◌}
 use native.Mathlib.Omega.{arith}
 use lib.Count.{ones-le}
@@ -9,103 +9,45 @@ use Rattle.bits.proofs.Laws.{below_of_lem}
 use Rattle.bits.proofs.Steps.{one_shl_word, word_lt, copy_none, zeros_none, shift_is, step_word, count_more}
 use Rattle.bits.proofs.shift_words.Goals as goal
 
-pub overflow_sub-k : goal.overflow_sub-k
-overflow_sub-k c = omega arith
-
-pub overflow_shl-p : goal.overflow_shl-p
-overflow_shl-p c = omega arith
-
 pub loop-i-init : goal.loop-i-init
 loop-i-init c =
     let z = c.args in (
-      omega arith,
-      refl,
       copy_none (8 * z.d) (8 * z.q + z.j) z.room.now z.body.now (below_of_lem 256 z.room.now (λ k. (c.slice_known-1.given k).fits)),
       zeros_none (8 * z.q + z.j) z.body.now,
       omega arith,
     )
 
-pub overflow_mul-i : goal.overflow_mul-i
-overflow_mul-i c = omega arith
-
-pub overflow_add-q : goal.overflow_add-q
-overflow_add-q c = omega arith
-
-pub read_u64-requires : goal.read_u64-requires
-read_u64-requires c = omega arith
-
-pub overflow_shr-lo : goal.overflow_shr-lo
-overflow_shr-lo c = omega arith
-
 pub nonzero_rem-lo : goal.nonzero_rem-lo
 nonzero_rem-lo c = omega (arith, one_shl_word (8 - c.args.j) (omega arith), pow_pos (8 - c.args.j))
 
-pub overflow_mul-i-in-loop-i : goal.overflow_mul-i-in-loop-i
-overflow_mul-i-in-loop-i c = omega arith
-
-pub overflow_add-q-in-loop-i : goal.overflow_add-q-in-loop-i
-overflow_add-q-in-loop-i c = omega arith
-
-pub overflow_add-q-in-loop-i-2 : goal.overflow_add-q-in-loop-i-2
-overflow_add-q-in-loop-i-2 c = omega arith
-
-pub read_u64-requires-in-loop-i : goal.read_u64-requires-in-loop-i
-read_u64-requires-in-loop-i c = omega arith
-
-pub overflow_shl-hi : goal.overflow_shl-hi
-overflow_shl-hi c = omega arith
-
 pub overflow_add-x : goal.overflow_add-x
-overflow_add-x c = omega (arith, word_lt c.args.j c.read_u64.result c.read_u64-in-loop-i.result (omega arith))
-
-pub overflow_mul-i-in-loop-i-2 : goal.overflow_mul-i-in-loop-i-2
-overflow_mul-i-in-loop-i-2 c = omega arith
-
-pub overflow_add-d : goal.overflow_add-d
-overflow_add-d c = omega arith
-
-pub write_u64-requires : goal.write_u64-requires
-write_u64-requires c = omega arith
+overflow_add-x c = omega (arith, word_lt c.args.j c.read.result c.read-in-loop-i.result (omega arith))
 
 pub overflow_cast-none : goal.overflow_cast-none
-overflow_cast-none c = omega (arith, ones-le 64 _ (word_lt c.args.j c.read_u64.result c.read_u64-in-loop-i.result (omega arith)))
+overflow_cast-none c = omega (arith, ones-le 64 _ (word_lt c.args.j c.read.result c.read-in-loop-i.result (omega arith)))
 
 pub overflow_sub-none : goal.overflow_sub-none
-overflow_sub-none c = omega (arith, ones-le 64 _ (word_lt c.args.j c.read_u64.result c.read_u64-in-loop-i.result (omega arith)))
-
-pub overflow_add-none : goal.overflow_add-none
-overflow_add-none c = omega arith
-
-pub overflow_add-i : goal.overflow_add-i
-overflow_add-i c = omega arith
-
-pub loop-i-smaller : goal.loop-i-smaller
-loop-i-smaller c = omega arith
+overflow_sub-none c = omega (arith, ones-le 64 _ (word_lt c.args.j c.read.result c.read-in-loop-i.result (omega arith)))
 
 pub loop-i-preserved : goal.loop-i-preserved
 loop-i-preserved c =
     let z = c.args in
     let l = c.loop-i in
-    let x = c.read_u64 in
-    let y = c.read_u64-in-loop-i in
+    let x = c.read in
+    let y = c.read-in-loop-i in
     let v = x.result / 2 ^ z.j % (1 * 2 ^ (8 - z.j) % 2 ^ 64) + y.result * 2 ^ (8 - z.j) % 2 ^ 64 in
     let e : 64 * (l.i + 1) ≡ 64 * l.i + 64 = omega arith in
     let a : 8 * (z.q + 8 * l.i) + z.j ≡ 8 * z.q + z.j + 64 * l.i = omega arith in
     let d : digits 64 v ≡ bits_at (8 * z.q + z.j + 64 * l.i) 64 z.body.now
     = rw (one_shl_word (8 - z.j) (omega arith), x.ensures, y.ensures) (rw a at (shift_is 8 (z.q + 8 * l.i) z.j z.body.now (λ k. (c.shared_slice_known-1.given k).fits) (omega arith) (omega arith) (omega arith))) in (
-      omega arith,
-      omega arith,
-      rw e (step_word 8 (z.d + 8 * l.i) (8 * z.d) (8 * z.q + z.j) (64 * l.i) v z.room.now z.body.now l.room _ l.invariant.2 (omega arith) d (omega arith) (omega arith) c.write_u64.ensures),
-      rw (l.invariant.3, e) (count_more (8 * z.q + z.j) (64 * l.i) 64 v z.body.now (word_lt z.j x.result y.result (omega arith)) d),
+      rw e (step_word 8 (z.d + 8 * l.i) (8 * z.d) (8 * z.q + z.j) (64 * l.i) v z.room.now z.body.now l.room _ l.invariant.0 (omega arith) d (omega arith) (omega arith) c.write.ensures),
+      rw (l.invariant.1, e) (count_more (8 * z.q + z.j) (64 * l.i) 64 v z.body.now (word_lt z.j x.result y.result (omega arith)) d),
       omega arith,
     )
-
-pub shape_of-room : goal.shape_of-room
-shape_of-room c = omega arith
 
 pub returns : goal.returns
 returns c =
     let z = c.args in
     let l = c.loop-i in
     let e : l.i ≡ z.m = omega arith in
-    record { room_after = l.invariant.2 ∙ rw e; value = l.invariant.3 ∙ rw e }
+    record { room_after = l.invariant.0 ∙ rw e; value = l.invariant.1 ∙ rw e }
