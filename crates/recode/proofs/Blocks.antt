@@ -1,12 +1,12 @@
 -- Entries in another width by stretches, and by way of a width between. Assumes nothing.
-use Rattle.std.proofs.Common.{◌≡◌, ℕ, ◌+◌, ◌-◌, ◌*◌, ◌%◌, ◌^◌, ◌<◌, ◌≤◌, List, ◌++◌, length, get_or, drop, sym, refl, ap, ◌∙◌, mod-eq_of_lt, arith, get_or-drop}
+use Rattle.std.proofs.Common.{◌≡◌, ℕ, ◌+◌, ◌-◌, ◌*◌, ◌%◌, ◌^◌, ◌<◌, ◌≤◌, List, ◌++◌, length, get_or, drop, ap, ◌∙◌, mod-eq_of_lt, arith, get_or-drop}
 use native.Mathlib.Nat.{add-mod_right}
 use Rattle.number.specs.Number.{number, entry, splice}
-use Rattle.number.proofs.Laws.{number_lt, length_splice, splice_splice}
+use Rattle.number.proofs.Laws.{number_lt, splice_splice}
 use Rattle.utils.specs.Pieces.{numbers}
 use Rattle.utils.proofs.Pieces.{length_numbers, numbers_same, entry_splice}
 use Rattle.recode.specs.Recode.{recoded, lessened}
-use Rattle.recode.proofs.Laws.{recoded_long, entry_small}
+use Rattle.recode.proofs.Laws.{less_zero, entry_small}
 use Rattle.recode.proofs.Masks.{numbers_join}
 
 -- m entries behind the first a
@@ -47,9 +47,8 @@ by_two w' s wide from n l h =
         let d : entry 1 s from k + 256 ^ 8 - 0 ≡ entry 1 s from k + 256 ^ 8 = omega arith in
         rw (e, d, add-mod_right) (mod-eq_of_lt (entry_small 1 s from (omega arith) h k))
 
-pub wide_length : (s wide wide' : List ℕ) (from n : ℕ) → 2 * n ≤ length wide → wide' ≡ splice 0 (recoded 1 2 s from n) wide → length wide' ≡ length wide
-wide_length s wide wide' from n l e = ap length e ∙ length_splice 0 (recoded 1 2 s from n) wide (omega (arith, recoded_long 1 2 s from n))
-
 pub two_done : (w' : ℕ) (s room wide wide' r' : List ℕ) (at from n : ℕ) → 2 * n ≤ length wide → ((i : ℕ) → get_or s i 0 < 256)
-    → wide' ≡ splice 0 (recoded 1 2 s from n) wide → r' ≡ splice at (lessened 2 w' wide' 0 0 n) room → r' ≡ splice at (recoded 1 w' s from n) room
-two_done w' s room wide wide' r' at from n l h e d = d ∙ rw (e, by_two w' s wide from n (omega arith) h)
+    → wide' ≡ splice 0 (lessened 1 2 s from 0 n) wide → r' ≡ splice at (lessened 2 w' wide' 0 0 n) room → r' ≡ splice at (recoded 1 w' s from n) room
+two_done w' s room wide wide' r' at from n l h e d =
+    let z : lessened 1 2 s from 0 n ≡ recoded 1 2 s from n = less_zero 1 2 s from n (entry_small 1 s from (omega arith) h) in
+    d ∙ rw (e, z, by_two w' s wide from n (omega arith) h)

@@ -1,7 +1,7 @@
 -- Laws of entries in another width, over every width. Assumes nothing.
 use Rattle.std.proofs.Common.{◌≡◌, ℕ, zero, suc, ◌+◌, ◌-◌, ◌*◌, ◌/◌, ◌%◌, ◌^◌, ◌<◌, ◌≤◌, Bool, true, false, ◌&&◌, eqb, ltb, leb, List, ◌++◌, length, get_or, take, drop, sym, refl, ap, ◌∙◌, ap₂, lt_of_lt_of_le, mod-eq_of_lt, mul-zero, add-one, arith, length-drop, get_or-drop, drop-drop, take-add, ltb-false, ltb-true, le-ltb, lt-ltb, eqb-true, leb-false, leb-true}
 use mathlib.Core.Bool.{and-false}
-use native.Mathlib.Nat.{add-mod_right, mod-eq-sub-mod, pow-le-pow_right}
+use native.Mathlib.Nat.{add-mod_right, pow-le-pow_right}
 use borrow.Author.Tests.{eqb-false}
 use Rattle.number.specs.Number.{number, encode, entry, splice}
 use Rattle.number.proofs.Laws.{halves, encode_mod, encode_number, number_lt, length_splice, put_halves}
@@ -9,40 +9,18 @@ use Rattle.utils.specs.Pieces.{pieces, numbers}
 use Rattle.utils.proofs.Pieces.{pieces_none, length_numbers, numbers_step, numbers_same}
 use Rattle.recode.specs.Recode.{recoded, lessened, all_below}
 
--- what the machine's difference is
-pub difference_is : (m v base d : ℕ) → v < m → base < m → d < m → (d + base) % m ≡ v → d ≡ (v + m - base) % m
-difference_is m v base d hv hb hd e = go (ltb (d + base) m) refl
-  where
-    go : (b : Bool) → ltb (d + base) m ≡ b → d ≡ (v + m - base) % m
-    go true t =
-        let h : d + base < m = ltb-true _ _ t in
-        let l : d + base ≡ v = sym (mod-eq_of_lt h) ∙ e in
-        let a : v + m - base ≡ d + m = omega arith in
-        rw (a, add-mod_right) (sym (mod-eq_of_lt hd))
-    go false t =
-        let h : m ≤ d + base = ltb-false _ _ t in
-        let g : d + base - m < m = omega arith in
-        let l : d + base - m ≡ v = sym (mod-eq_of_lt g) ∙ sym (mod-eq-sub-mod h) ∙ e in
-        let a : v + m - base ≡ d = omega arith in
-        rw a (sym (mod-eq_of_lt hd))
-
 pub less_none : (w w' : ℕ) (s : List ℕ) (from base at : ℕ) (room : List ℕ) → splice at (lessened w w' s from base 0) room ≡ room
 unfolding lessened
 less_none w w' s from base at room = pieces_none _ at room
 
--- one entry more after the first i
-module _ (w w' : ℕ) (room s : List ℕ) (at from base i v d : ℕ) (l : at + w' * (i + 1) ≤ length room) (ev : v ≡ entry w s from i)
-    (hv : v < 256 ^ 8) (hb : base < 256 ^ 8) (hd : d < 256 ^ 8) (e : (d + base) % 256 ^ 8 ≡ v) where
-  pub less_step : splice (at + w' * i) (encode w' d) (splice at (lessened w w' s from base i) room) ≡ splice at (lessened w w' s from base (i + 1)) room
-  unfolding lessened
-  less_step =
-      let f : d ≡ (entry w s from i + 256 ^ 8 - base) % 256 ^ 8 = rw ev at (difference_is (256 ^ 8) v base d hv hb hd e) in
-      rw f (numbers_step w' (λ k. (entry w s from k + 256 ^ 8 - base) % 256 ^ 8) room at i l)
-
-  -- .. of which the lowest bytes are written
-  pub less_step_low : splice (at + w' * i) (encode w' (d % 256 ^ w')) (splice at (lessened w w' s from base i) room)
-      ≡ splice at (lessened w w' s from base (i + 1)) room
-  less_step_low = rw encode_mod less_step
+-- one entry more after the first i: the lowest bytes of the machine's difference
+pub less_step : (w w' : ℕ) (room s : List ℕ) (at from base i v : ℕ) → at + w' * (i + 1) ≤ length room → v ≡ entry w s from i → base < 256 ^ 8
+    → splice (at + w' * i) (encode w' ((v + (256 ^ 8 - base)) % 256 ^ 8 % 256 ^ w')) (splice at (lessened w w' s from base i) room)
+    ≡ splice at (lessened w w' s from base (i + 1)) room
+unfolding lessened
+less_step w w' room s at from base i v l e h =
+    let d : v + (256 ^ 8 - base) ≡ entry w s from i + 256 ^ 8 - base = rw e (omega arith) in
+    rw (encode_mod, d) (numbers_step w' (λ k. (entry w s from k + 256 ^ 8 - base) % 256 ^ 8) room at i l)
 
 -- ---- entries as they are
 
@@ -54,14 +32,11 @@ pub recoded_long : (w w' : ℕ) (s : List ℕ) (from n : ℕ) → length (recode
 unfolding recoded
 recoded_long w w' s from n = length_numbers w' (entry w s from) n
 
-module _ (w w' : ℕ) (room s : List ℕ) (at from i v : ℕ) (l : at + w' * (i + 1) ≤ length room) (e : v ≡ entry w s from i) where
-  pub recode_step : splice (at + w' * i) (encode w' v) (splice at (recoded w w' s from i) room) ≡ splice at (recoded w w' s from (i + 1)) room
-  unfolding recoded
-  recode_step = rw e (numbers_step w' (entry w s from) room at i l)
-
-  -- .. of which the lowest bytes are written
-  pub recode_step_low : splice (at + w' * i) (encode w' (v % 256 ^ w')) (splice at (recoded w w' s from i) room) ≡ splice at (recoded w w' s from (i + 1)) room
-  recode_step_low = rw encode_mod recode_step
+-- one entry more after the first i: its lowest bytes
+pub recode_step : (w w' : ℕ) (room s : List ℕ) (at from i v : ℕ) → at + w' * (i + 1) ≤ length room → v ≡ entry w s from i
+    → splice (at + w' * i) (encode w' (v % 256 ^ w')) (splice at (recoded w w' s from i) room) ≡ splice at (recoded w w' s from (i + 1)) room
+unfolding recoded
+recode_step w w' room s at from i v l e = rw (encode_mod, e) (numbers_step w' (entry w s from) room at i l)
 
 -- the low bytes of both halves
 two_digits : (x y : ℕ) → x < 256 → ((x + y * 256) % 256 ≡ x) × ((x + y * 256) / 256 ≡ y)
@@ -103,8 +78,8 @@ module _ (room s : List ℕ) (at from i v : ℕ) (l : at + 2 * (i + 1) ≤ lengt
       sym (put_halves 1 1 (at + 2 * i) both before (omega arith))
       ∙ ap₂ (λ y z. splice (at + 2 * i + 1) (encode 1 z) (splice (at + 2 * i) (encode 1 y) before)) both_are.0 both_are.1
       ∙ ap₂ (λ y z. splice y (encode 1 (high % 256)) (splice z (encode 1 (low % 256)) before)) b a
-      ∙ ap (splice (at + 1 * (2 * i + 1)) (encode 1 (high % 256))) (recode_step_low 2 1 room s at from (2 * i) low (omega arith) refl)
-      ∙ recode_step_low 2 1 room s at from (2 * i + 1) high (omega arith) refl
+      ∙ ap (splice (at + 1 * (2 * i + 1)) (encode 1 (high % 256))) (recode_step 2 1 room s at from (2 * i) low (omega arith) refl)
+      ∙ recode_step 2 1 room s at from (2 * i + 1) high (omega arith) refl
       ∙ ap (λ y. splice at (recoded 2 1 s from y) room) d
     where
       length_recoded : length (recoded 2 1 s from (2 * i)) ≡ 1 * (2 * i)
@@ -118,7 +93,7 @@ odd_last room s at from m n v {r1} {r2} e l h f g =
     let b : at + 2 * m ≡ at + 1 * (2 * m) = omega arith in
     g
     ∙ ap₂ (λ y z. splice y (encode 1 (v % 256)) z) b f
-    ∙ recode_step_low 2 1 room s at from (2 * m) v (omega arith) (h ∙ ap (λ y. number 2 (drop y s)) a)
+    ∙ recode_step 2 1 room s at from (2 * m) v (omega arith) (h ∙ ap (λ y. number 2 (drop y s)) a)
     ∙ ap (λ y. splice at (recoded 2 1 s from y) room) (sym e)
 
 -- less 0 they are the same

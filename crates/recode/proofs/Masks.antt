@@ -10,11 +10,6 @@ use Rattle.utils.proofs.Pieces.{pieces_none, pieces_same, numbers_step, numbers_
 use Rattle.utils.proofs.Laws.{first_entry_lem}
 use Rattle.recode.specs.Recode.{recoded, masked, valid_only}
 
-pub times_bit : (v b : ℕ) → b ≤ 1 → v * b ≤ v
-times_bit v zero l = rw mul-zero (omega arith)
-times_bit v (suc zero) l = omega arith
-times_bit v (suc (suc b)) l = absurd (omega arith)
-
 -- ---- places
 
 pub scale_le : (w i n : ℕ) → i ≤ n → w * i ≤ w * n
@@ -136,9 +131,6 @@ valid_join w w' s room from at p n l =
 pub valid_done : (w w' : ℕ) (s room : List ℕ) (from at p n : ℕ) (r r' : List ℕ) → at + w' * n ≤ length room → r ≡ splice at (recoded w w' s from n) room
     → r' ≡ splice at (masked w' r at (λ k. get_or (bits s) (p + k) 0) n) r → r' ≡ splice at (valid_only w w' s from p n) room
 valid_done w w' s room from at p n r r' l e d = d ∙ rw e (valid_join w w' s room from at p n l)
-
-pub digit_le : (y : ℕ) → y % 2 ≤ 1
-digit_le y = omega arith
 
 -- a key where its bit is 1, else 0
 pub valid_is : (w w' : ℕ) (s : List ℕ) (from p n : ℕ)

@@ -2,30 +2,16 @@
 ghost use Rattle.std.specs.Prelude.{◌≡◌, ◌+◌, ◌*◌, ◌≤◌, length, ◌≢◌};
 ghost use Rattle.recode.specs.Recode.{all_below};
 
-fn below_4(body: &[u8], from: usize, n: usize, limit: u64) -> bool
-    requires { from + 4 * n ≤ length body.now }
-    ensures { result ≡ all_below 4 body.now from limit n }
-{
-    let mut i = 0;
-    while i < n {
-        if limit <= number::read_u32(body, from + 4 * i) as u64 {
-            return false;
-        }
-        i += 1;
-    }
-    true
-}
+use number::Unsigned;
 
-fn below_8(body: &[u8], from: usize, n: usize, limit: u64) -> bool
-    requires { from + 8 * n ≤ length body.now }
-    ensures { result ≡ all_below 8 body.now from limit n }
+fn below<N: Unsigned>(body: &[u8], from: usize, n: usize, limit: u64) -> bool
+    requires { from + N.SIZE * n ≤ length body.now }
+    ensures { result ≡ all_below N.SIZE body.now from limit n }
 {
-    let mut i = 0;
-    while i < n {
-        if limit <= number::read_u64(body, from + 8 * i) {
+    for i in 0..n {
+        if limit <= N::read(body, from + N::SIZE * i).to_u64() {
             return false;
         }
-        i += 1;
     }
     true
 }
@@ -37,7 +23,7 @@ pub fn all_below(body: &[u8], from: usize, w: u64, n: usize, limit: u64) -> bool
     ensures { result ≡ all_below w body.now from limit n }
 {
     match w {
-        4 => below_4(body, from, n, limit),
-        _ => below_8(body, from, n, limit),
+        4 => below::<u32>(body, from, n, limit),
+        _ => below::<u64>(body, from, n, limit),
     }
 }

@@ -1,10 +1,7 @@
-use Rattle.std.proofs.Common.{◌≡◌, ◌-◌, ◌*◌, ◌≤◌, length}
+use Rattle.std.proofs.Common.{◌≡◌, ◌*◌}
 use Rattle.number.specs.Number.{splice}
 use Rattle.recode.specs.Recode.{recoded}
 use Rattle.recode.proofs.keys.pairs_2_1.Given as goal
 
 abbrev pub invariant-loop-i : goal.invariant-loop-i
-invariant-loop-i l = (l.i ≤ l.m) × (length l.room ≡ length l.initial.room) × (l.room ≡ splice l.at (recoded 2 1 l.body l.from (2 * l.i)) l.initial.room)
-
-abbrev pub decreases-loop-i : goal.decreases-loop-i
-decreases-loop-i l = l.m - l.i
+invariant-loop-i l = l.room ≡ splice l.at (recoded 2 1 l.body l.from (2 * l.i)) l.initial.room
