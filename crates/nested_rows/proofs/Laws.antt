@@ -13,7 +13,8 @@ use Rattle.columnar.specs.Types.{half}
 use Rattle.utils.specs.Offsets.{counted_up}
 use Rattle.run_ends.specs.Lookup.{found_run, runs_of}
 use Rattle.run_ends.specs.Clip.{clipped}
-use Rattle.run_ends.specs.declared.Runs.{Runs}
+use Rattle.std.specs.Prelude.{Option}
+use Rattle.run_ends.specs.declared.RunRange.{RunRange}
 use Rattle.array_data.proofs.lent_tables.Laws.{no, yes, and_left, and_right}
 use Rattle.walk.specs.State.{Join, bytes_of, end_of, id_of, rows, bytes, add_rows, set_bytes, end_gap, begin_gap, place, length_of, offset_of, rows_in, scaled, grown, top}
 use Rattle.walk.specs.Log.{Entry, Out, Did, put, amend, enter, apply, apply_if, wrote, need, next}
@@ -261,7 +262,7 @@ pub runs_from : (x : Join) (w i : ℕ) {k at m o : ℕ} → k ≡ x.first + suc 
     → place x (suc i) 3 + w * (offset_of x (suc i) + length_of x (suc i)) ≤ length x.body → at + w * o + w * m ≤ length x.body
 runs_from x w i e f g l h = rw (l, e) (ends_from x w i (length_of x (suc i)) e f g h)
 
-pub runs_given : (x : Join) (child : Walk) (w i slot n : ℕ) {k at m o : ℕ} {r : Runs} → k ≡ x.first + suc i → at ≡ get_or x.places (9 * k + 3) 0 → o ≡ get_or x.lengths (2 * k + 1) 0 → m ≡ get_or x.lengths (2 * k) 0
+pub runs_given : (x : Join) (child : Walk) (w i slot n : ℕ) {k at m o : ℕ} {r : Option RunRange} → k ≡ x.first + suc i → at ≡ get_or x.places (9 * k + 3) 0 → o ≡ get_or x.lengths (2 * k + 1) 0 → m ≡ get_or x.lengths (2 * k) 0
     → r ≡ runs_of (found_run w x.body (at + w * o) m (slot + n)) slot (slot + n) → r ≡ runs_at x child w i slot n
 runs_given x child w i slot n e f g h l = rw (f, g, h, e) at l
 

@@ -18,7 +18,7 @@ ghost use Rattle.leaf_walk.specs.Walks.{lent_join, Walks};
 ghost use Rattle.nested_rows.specs.Numbers.{list_numbers, dense_numbers, runs_ready, run_numbers, null_ids, null_positions, null_end, longer_end};
 
 use array_data::lent_tables;
-use run_ends::{LogicalRow, PhysicalRun, Runs};
+use run_ends::{LogicalRow, PhysicalRun, RunRange};
 use walk::plan_words;
 
 // Whether v + n is below half of the numbers of w bytes.
@@ -179,7 +179,7 @@ pub fn runs_at(
     w: u64,
     start: LogicalRow,
     n: u64,
-) -> Runs
+) -> Option<RunRange>
     requires first_bound { (first < 2 ^ 32) × (i + 2 < 32) × (start.0 + n < 2 ^ 63) }
     requires w_value { (w ≡ 2 → ⊥) → (w ≡ 4 → ⊥) → w ≡ 8 }
     requires i_in_bounds { let j = join [] [] lengths.now places.now body.now first 0 in place j (suc i) 3 + w * (offset_of j (suc i) + length_of j (suc i)) ≤ length body.now }

@@ -9,7 +9,7 @@ ghost use Rattle.walk.specs.Nulls.{nullable_child};
 ghost use Rattle.leaf_walk.specs.Join.{join};
 
 use array_data::lent_tables;
-use run_ends::{LogicalRow, Runs};
+use run_ends::{LogicalRow, RunRange};
 use walk::plan_words;
 
 // The first slot of the rows a .. a + n - 1 of node i, or 2^63 where they are not rows of any array.
@@ -96,16 +96,14 @@ pub fn runs_of(
     w: u64,
     start: LogicalRow,
     end: LogicalRow,
-) -> Runs
+) -> Option<RunRange>
     requires w_value { (w ≡ 2 → ⊥) → (w ≡ 4 → ⊥) → w ≡ 8 }
     requires n_in_bounds { from + w * n ≤ length body.now }
     ensures { result ≡ runs_of (found_run w (was body) from n end.0) start.0 end.0 }
 {
-    if w == 2 {
-        return run_ends::runs_of_range_i16(body, from, n, start, end);
+    match w {
+        2 => run_ends::runs_of_range::<u16>(body, from, n, start, end),
+        4 => run_ends::runs_of_range::<u32>(body, from, n, start, end),
+        _ => run_ends::runs_of_range::<u64>(body, from, n, start, end),
     }
-    if w == 4 {
-        return run_ends::runs_of_range_i32(body, from, n, start, end);
-    }
-    run_ends::runs_of_range_i64(body, from, n, start, end)
 }

@@ -24,9 +24,9 @@ fn write_run_ends(
     ensures { room.new ≡ splice at (clipped w body.now from n start.0 end.0 last) room.old }
 {
     match w {
-        2 => copies::extend_run_ends_i16(room, at, body, from, n, start, end, last),
-        4 => copies::extend_run_ends_i32(room, at, body, from, n, start, end, last),
-        _ => copies::extend_run_ends_i64(room, at, body, from, n, start, end, last),
+        2 => copies::extend_run_ends::<u16>(room, at, body, from, n, start, end, last),
+        4 => copies::extend_run_ends::<u32>(room, at, body, from, n, start, end, last),
+        _ => copies::extend_run_ends::<u64>(room, at, body, from, n, start, end, last),
     }
 }
 

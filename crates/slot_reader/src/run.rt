@@ -3,7 +3,7 @@ ghost use Rattle.std.specs.Prelude.{◌≡◌};
 ghost use Rattle.clauses.specs.Slices.{was};
 ghost use Rattle.slot_reader.specs.run.Rows.{row_run, ends_run};
 
-use run_ends::{Found, LogicalRow, PhysicalRun};
+use run_ends::{LogicalRow, PhysicalRun, RunRow};
 
 // A row of the column, counted from its first: the offset is not added yet.
 #[derive(Clone, Copy)]
@@ -26,14 +26,14 @@ pub struct RunReader<'a> {
 }
 
 // The run of a row that is counted with the offset added, and the rows left in it before `last`.
-fn found_run(ends: &[u8], width: u8, row: LogicalRow, last: LogicalRow) -> Found
+fn found_run(ends: &[u8], width: u8, row: LogicalRow, last: LogicalRow) -> Option<RunRow>
     ensures { result ≡ ends_run (was ends) width last.0 row.0 }
 {
     match width {
-        2 => run_ends::find_run_i16(ends, 0, ends.len() / 2, row, last),
-        4 => run_ends::find_run_i32(ends, 0, ends.len() / 4, row, last),
-        8 => run_ends::find_run_i64(ends, 0, ends.len() / 8, row, last),
-        _ => Found::Past,
+        2 => run_ends::find_run::<u16>(ends, 0, ends.len() / 2, row, last),
+        4 => run_ends::find_run::<u32>(ends, 0, ends.len() / 4, row, last),
+        8 => run_ends::find_run::<u64>(ends, 0, ends.len() / 8, row, last),
+        _ => None,
     }
 }
 
@@ -51,8 +51,8 @@ pub fn run_of_row(ends: &[u8], offset: u64, len: u64, width: u8, row: ColumnRow)
     let x = LogicalRow(offset + i);
     let last = LogicalRow(offset + len);
     match found_run(ends, width, x, last) {
-        Found::Run { run, left } => RowRun::Run { run, left },
-        Found::Past => RowRun::Refused(12),
+        Some(RunRow { run, left }) => RowRun::Run { run, left },
+        None => RowRun::Refused(12),
     }
 }
 

@@ -292,7 +292,7 @@ fn ends_i16(body: &[u8], start: usize, size: u64, off: u64, len: u64, reach: u64
     if !row_rules::run_ends_i16(body, at, n) {
         return false;
     }
-    let last = run_ends::last_run_end_i16(body, at, n);
+    let last = run_ends::last_run_end::<u16>(body, at, n);
     reach <= last.0
 }
 
@@ -330,7 +330,7 @@ fn ends_i32(body: &[u8], start: usize, size: u64, off: u64, len: u64, reach: u64
     if !row_rules::run_ends_i32(body, at, n) {
         return false;
     }
-    let last = run_ends::last_run_end_i32(body, at, n);
+    let last = run_ends::last_run_end::<u32>(body, at, n);
     reach <= last.0
 }
 
@@ -368,7 +368,7 @@ fn ends_i64(body: &[u8], start: usize, size: u64, off: u64, len: u64, reach: u64
     if !row_rules::run_ends_i64(body, at, n) {
         return false;
     }
-    let last = run_ends::last_run_end_i64(body, at, n);
+    let last = run_ends::last_run_end::<u64>(body, at, n);
     reach <= last.0
 }
 

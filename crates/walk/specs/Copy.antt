@@ -1,14 +1,13 @@
 -- The walk of a copy: a node hands rows to its children, whose walk does the same one level down. Assumes nothing.
 -- Follows arrow-data 60.1.0 src/transform/mod.rs, list.rs, list_view.rs, union.rs and run.rs, Apache-2.0; see NOTICE.
-use Rattle.std.specs.Prelude.{Bool, true, false, cond, ◌&&◌, ◌||◌, List, [], ◌∷◌, ℕ, zero, suc, ◌+◌, ◌*◌, ◌-◌, length, take, drop, get_or, leb, ltb, eqb}
+use Rattle.std.specs.Prelude.{Bool, cond, ◌&&◌, ◌||◌, List, [], ◌∷◌, ℕ, zero, suc, ◌+◌, ◌*◌, ◌-◌, take, drop, get_or, ltb, eqb, Option, Some, None}
 use Rattle.number.specs.Number.{entry, encode}
 use Rattle.columnar.specs.Types.{half}
 use Rattle.schema.specs.formats.Code.{is_fixed, is_string, is_view, is_list_view, is_list, is_sparse, is_dense}
 use Rattle.utils.specs.Offsets.{moved_offsets}
 use Rattle.run_ends.specs.Lookup.{found_run, runs_of}
 use Rattle.run_ends.specs.Clip.{clipped}
-use Rattle.run_ends.specs.declared.Runs.{Runs}
-use Rattle.run_ends.specs.declared.Runs.TheVariants.{Range, None}
+use Rattle.run_ends.specs.declared.RunRange.{RunRange}
 use Rattle.walk.specs.State.{Join, code_of, dictionary_of, end_of, id_of, bytes_of, rows, add_rows, end_gap, place, length_of, offset_of, far, slot_of, rows_in}
 use Rattle.walk.specs.Log.{Out, put, fail, done, wrote, need, found, next, each}
 use Rattle.walk.specs.Leaves.{with_offsets, copy_mask, copy_numbers, copy_keys, copy_views, copy_string}
@@ -105,15 +104,15 @@ module _ (x : Join) (child : Walk) where
   ends_at w i = place x (suc i) 3 + w * offset_of x (suc i)
 
   -- the values of the runs, then their ends, clipped to the rows, behind the rows that were there before
-  abbrev pub put_runs : ℕ → ℕ → ℕ → ℕ → Runs → List ℕ → Out
+  abbrev pub put_runs : ℕ → ℕ → ℕ → ℕ → Option RunRange → List ℕ → Out
   put_runs w i slot n None c = fail 12 c
-  put_runs w i slot n (Range first count) c =
-      next (child (suc (suc i)) first.0 count c)
-      (λ c2. next (wrote (put (suc i) 1 (rows c2 (suc i) * w) (clipped w x.body (ends_at w i + w * first.0) count slot (slot + n) (rows c i))) c2)
-      (λ c3. done (end_gap i (add_rows (suc i) count c3))))
+  put_runs w i slot n (Some r) c =
+      next (child (suc (suc i)) r.first.0 r.count c)
+      (λ c2. next (wrote (put (suc i) 1 (rows c2 (suc i) * w) (clipped w x.body (ends_at w i + w * r.first.0) r.count slot (slot + n) (rows c i))) c2)
+      (λ c3. done (end_gap i (add_rows (suc i) r.count c3))))
 
   -- the runs of the rows, by the search
-  abbrev pub runs_at : ℕ → ℕ → ℕ → ℕ → Runs
+  abbrev pub runs_at : ℕ → ℕ → ℕ → ℕ → Option RunRange
   runs_at w i slot n =
       runs_of (found_run w x.body (ends_at w i) (length_of x (suc i)) (slot + n)) slot (slot + n)
 

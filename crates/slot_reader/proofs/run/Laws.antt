@@ -6,36 +6,26 @@ use Prim.Native.Nat.{ℕ, ◌+◌, ◌/◌, ◌^◌, ◌≤◌, ◌<◌}
 use native.Mathlib.Omega.{arith}
 use lib.ListN.{length}
 use lib.Dec.{ltb}
-use borrow.Author.Tests.{lt-ltb, le-ltb, ne_eqb, ltb-true}
+use borrow.Author.Tests.{lt-ltb, ltb-true}
 use Rattle.number.specs.Number.{entry}
 use Rattle.run_ends.specs.Lookup.{Rising, Covers, first_above, left_of, found_at, found_run}
 use Rattle.run_ends.proofs.Laws.{bisect_first}
 use Rattle.run_ends.proofs.Left.{Left, found_left, found_some}
 use Rattle.run_ends.specs.declared.PhysicalRun.{PhysicalRun}
-use Rattle.run_ends.specs.declared.Found.{Found}
-use Rattle.run_ends.specs.declared.Found.TheVariants as found
-use Rattle.slot_reader.specs.declared.run.RowRun.{RowRun}
+use Rattle.std.specs.Prelude.{Option, Some, None}
+use Rattle.run_ends.specs.declared.RunRow.{RunRow}
 use Rattle.slot_reader.specs.declared.run.RowRun.TheVariants as answer
 use Rattle.slot_reader.specs.run.Rows.{is_width, ends_run, as_row, row_run_by, row_run, row_run_first}
 
-pub no_width : (s : List ℕ) (w last x : ℕ) → (w ≡ 2 → ⊥) → (w ≡ 4 → ⊥) → (w ≡ 8 → ⊥) → found.Past ≡ ends_run s w last x
-no_width s w last x a b c = simp (ne_eqb w 2 a, ne_eqb w 4 b, ne_eqb w 8 c)
-
-module _ (look : ℕ → ℕ → Found) (offset len row : ℕ) where
-  pub not_below : len ≤ row → answer.Refused 2 ≡ row_run_by look offset len row
-  not_below h = simp (le-ltb row len h)
-
-  pub too_far : row < len → 2 ^ 64 ≤ offset + len → answer.Refused 12 ≡ row_run_by look offset len row
-  too_far h g = simp (lt-ltb row len h, le-ltb (offset + len) (2 ^ 64) g)
-
-  pub looked : row < len → offset + len < 2 ^ 64 → (f : Found) → f ≡ look (offset + len) (offset + row) → as_row f ≡ row_run_by look offset len row
+module _ (look : ℕ → ℕ → Option RunRow) (offset len row : ℕ) where
+  pub looked : row < len → offset + len < 2 ^ 64 → (f : Option RunRow) → f ≡ look (offset + len) (offset + row) → as_row f ≡ row_run_by look offset len row
   looked h g f e = ap as_row e ∙ simp (lt-ltb row len h, lt-ltb (offset + len) (2 ^ 64) g)
 
 -- where the run ends rise, the answer is by the first run whose end is above the row
 pub rising : (s : List ℕ) (offset len w row : ℕ) → Rising w s 0 (length s / w) → row_run s offset len w row ≡ row_run_first s offset len w row
 rising s offset len w row h =
     ap (λ (k : ℕ). cond (ltb row len) (cond (ltb (offset + len) (2 ^ 64))
-    (as_row (cond (is_width w) (found_at w s 0 (length s / w) (offset + len) (offset + row) k) found.Past)) (answer.Refused 12)) (answer.Refused 2))
+    (as_row (cond (is_width w) (found_at w s 0 (length s / w) (offset + len) (offset + row) k) None)) (answer.Refused 12)) (answer.Refused 2))
     (bisect_first w s 0 (length s / w) (offset + row) h)
 
 -- .. and the rows that it counts are exactly those of the column that still fall in the run
@@ -54,15 +44,15 @@ row_left s offset len w row wide r v g h =
 pub counted : (s : List ℕ) (offset len w row : ℕ) (k : PhysicalRun) (left : ℕ) → row_run s offset len w row ≡ answer.Run k left → (0 < left) × (row + left ≤ len)
 counted s offset len w row k left h = go (ltb row len) refl (ltb (offset + len) (2 ^ 64)) (is_width w) (found_run w s 0 (length s / w) (offset + len) (offset + row)) refl h
   where
-    go : (a : Bool) → ltb row len ≡ a → (b t : Bool) → (f : Found) → f ≡ found_run w s 0 (length s / w) (offset + len) (offset + row)
-        → cond a (cond b (as_row (cond t f found.Past)) (answer.Refused 12)) (answer.Refused 2) ≡ answer.Run k left
+    go : (a : Bool) → ltb row len ≡ a → (b t : Bool) → (f : Option RunRow) → f ≡ found_run w s 0 (length s / w) (offset + len) (offset + row)
+        → cond a (cond b (as_row (cond t f None)) (answer.Refused 12)) (answer.Refused 2) ≡ answer.Run k left
         → (0 < left) × (row + left ≤ len)
-    go true p true true (found.Run j m) q g =
+    go true p true true (Some r) q g =
         let i : row < len = ltb-true _ _ p in
         let u = found_some w s 0 (length s / w) (offset + len) (offset + row) q refl (omega arith) in
-        let v : m ≡ left = cc in
+        let v : r.left ≡ left = cc in
         (omega (arith, u.0), omega (arith, u.1))
-    go true p true true found.Past q g = let z : ◌≡◌ {A = ℕ} 0 1 = cc in absurd (omega arith)
+    go true p true true None q g = let z : ◌≡◌ {A = ℕ} 0 1 = cc in absurd (omega arith)
     go true p true false f q g = let z : ◌≡◌ {A = ℕ} 0 1 = cc in absurd (omega arith)
     go true p false t f q g = let z : ◌≡◌ {A = ℕ} 0 1 = cc in absurd (omega arith)
     go false p b t f q g = let z : ◌≡◌ {A = ℕ} 0 1 = cc in absurd (omega arith)

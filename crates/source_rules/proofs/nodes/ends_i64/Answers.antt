@@ -34,12 +34,12 @@ pub returns-then-not-run_ends_i64 : goal.returns-then-not-run_ends_i64
 unfolding ends_reach
 returns-then-not-run_ends_i64 c = rw (yes c.rows_fit.ensures c.if-not-rows_fit.false-raw, no c.run_ends_i64.ensures c.if-not-run_ends_i64.true-raw)
 
-pub last_run_end_i64-last-requires : goal.last_run_end_i64-last-requires
-last_run_end_i64-last-requires c =
+pub last_run_end-last-requires : goal.last_run_end-last-requires
+last_run_end-last-requires c =
     let a = c.args in
     let h : (a.off + a.len) * 8 ≤ a.size = leb-true _ _ (yes c.rows_fit.ensures c.if-not-rows_fit.false-raw) in
     omega arith
 
 pub returns : goal.returns
 unfolding ends_reach
-returns c = rw (yes c.rows_fit.ensures c.if-not-rows_fit.false-raw, yes c.run_ends_i64.ensures c.if-not-run_ends_i64.false-raw) (ap (leb c.args.reach) c.last_run_end_i64-last.ensures)
+returns c = rw (yes c.rows_fit.ensures c.if-not-rows_fit.false-raw, yes c.run_ends_i64.ensures c.if-not-run_ends_i64.false-raw) (ap (leb c.args.reach) c.last_run_end-last.ensures)
