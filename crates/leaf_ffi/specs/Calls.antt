@@ -1,8 +1,7 @@
 -- When a call of a leaf is done: where its ranges lie inside the slices that it is lent. Assumes nothing.
-use Rattle.std.specs.Prelude.{ℕ, zero, suc, ◌+◌, ◌-◌, ◌*◌, ◌%◌, ◌^◌, Bool, ◌&&◌, List, nat_le, slice_index}
+use Rattle.std.specs.Prelude.{ℕ, zero, suc, ◌+◌, ◌-◌, ◌*◌, ◌%◌, ◌^◌, Bool, ◌&&◌, List, nat_le, slice_index, Option, Some, None}
 use Rattle.run_ends.specs.Lookup.{found_run}
-use Rattle.run_ends.specs.declared.Found.{Found}
-use Rattle.run_ends.specs.declared.Found.TheVariants.{Run, Past}
+use Rattle.run_ends.specs.declared.RunRow.{RunRow}
 
 -- n entries of w bytes from the byte `at` on lie inside len bytes
 abbrev pub inside : ℕ → ℕ → ℕ → ℕ → Bool
@@ -25,9 +24,9 @@ abbrev pub inside_bits_both : ℕ → ℕ → ℕ → ℕ → ℕ → ℕ → �
 inside_bits_both room at b body from a n = inside_bits room at b n && inside_bits body from a n
 
 -- the run of a row, and n where the row is past the last of n runs
-abbrev pub run_of : ℕ → Found → ℕ
-run_of n (Run run left) = run.0
-run_of n Past = n
+abbrev pub run_of : ℕ → Option RunRow → ℕ
+run_of n (Some row) = row.run.0
+run_of n None = n
 
 -- the runs of the first k of the rows, added modulo 2 ^ 64: each is looked up among the n run ends of w bytes that stand in s from `from` on
 unfoldable pub run_sum : ℕ → List ℕ → ℕ → ℕ → List ℕ → ℕ → ℕ

@@ -11,6 +11,8 @@ ghost use Rattle.utils.specs.primitive.Primitive.{rebased};
 ghost use Rattle.utils.specs.byte_view.View.{reviewed};
 ghost use Rattle.leaf_ffi.specs.Calls.{inside, inside_both, inside_offsets, inside_bits, inside_bits_both, run_of, run_sum};
 
+use run_ends::{LogicalRow, RunRow};
+
 // The answer of a call that is refused. A call that is done answers 0, or a count.
 pub const REFUSED: usize = usize::MAX;
 
@@ -244,12 +246,12 @@ pub extern "C" fn lafkuno_leaf_count_zeros(body: &[u8], from: usize, a: usize, n
 }
 
 // The run that was found, and n where none was.
-fn run_of(found: run_ends::Found, n: usize) -> usize
+fn run_of(found: Option<RunRow>, n: usize) -> usize
     ensures { result ≡ run_of n found }
 {
     match found {
-        run_ends::Found::Run { run, left: _ } => run.0,
-        run_ends::Found::Past => n,
+        Some(row) => row.run.0,
+        None => n,
     }
 }
 
@@ -258,22 +260,10 @@ fn run_sum_i32(body: &[u8], from: usize, n: usize, rows: &[u64]) -> usize
     requires { from + 4 * n ≤ length body.now }
     ensures { result ≡ run_sum 4 (was body) from n (was rows) (length (was rows)) }
 {
-    let mut sum = 0;
-    let mut i = 0;
-    while i < rows.len() {
-        let row = rows[i];
-        let run = run_of(
-            run_ends::find_run_i32(
-                body,
-                from,
-                n,
-                run_ends::LogicalRow(row),
-                run_ends::LogicalRow(u64::MAX),
-            ),
-            n,
-        );
-        sum = std::num::wrapping_add_usize(sum, run);
-        i += 1;
+    let mut sum: usize = 0;
+    for &row in rows {
+        let found = run_ends::find_run::<u32>(body, from, n, LogicalRow(row), LogicalRow(u64::MAX));
+        sum = sum.wrapping_add(run_of(found, n));
     }
     sum
 }

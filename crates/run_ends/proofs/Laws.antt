@@ -1,23 +1,22 @@
 -- What the functions answer, over the width: each width's proof cites these. Assumes nothing.
 use mathlib.Core.Path.{◌≡◌, refl, sym, ap, ap₂, ◌∙◌}
 use mathlib.Core.Bool.{Bool, true, false, cond}
-use Prim.Native.Nat.{ℕ, zero, suc, ◌+◌, ◌*◌, ◌-◌, ◌/◌, ◌^◌, ◌≤◌, ◌<◌}
+use Prim.Native.Nat.{ℕ, zero, suc, ◌+◌, ◌*◌, ◌-◌, ◌≤◌, ◌<◌}
 use native.Mathlib.Nat.{mul-zero, mul-suc}
 use native.Mathlib.Numerals.{add-one}
 use native.Mathlib.Omega.{arith}
-use mathlib.Core.List.{List, ◌++◌}
+use mathlib.Core.List.{List}
 use lib.ListN.{length, length-append}
 use lib.Dec.{ltb, leb}
-use borrow.Author.Tests.{ltb-true, ltb-false, leb-true, lt-ltb, le-ltb, le-leb, lt-leb}
+use borrow.Author.Tests.{ltb-true, ltb-false, leb-true, lt-ltb, le-ltb}
 use Rattle.number.specs.Number.{entry, encode, splice}
 use Rattle.number.proofs.Laws.{length_encode, splice_splice}
-use Rattle.run_ends.specs.Lookup.{first_above, bisect, left_of, answered, found_at, found_run, format_run, Climbs, Rising, last_end, span_of, spanned, shortened, runs_of, runs_between}
+use Rattle.run_ends.specs.Lookup.{first_above, bisect, left_of, found_at, found_run, format_run, Climbs, Rising, last_end, span_of, spanned, shortened, runs_of, runs_between}
 use Rattle.run_ends.specs.Clip.{clip, clipped}
 use Rattle.run_ends.specs.declared.PhysicalRun.{PhysicalRun}
-use Rattle.run_ends.specs.declared.Found.{Found}
-use Rattle.run_ends.specs.declared.Found.TheVariants.{Run, Past}
-use Rattle.run_ends.specs.declared.Runs.{Runs}
-use Rattle.run_ends.specs.declared.Runs.TheVariants.{Range, None}
+use Rattle.std.specs.Prelude.{Option, Some, None}
+use Rattle.run_ends.specs.declared.RunRow.{RunRow}
+use Rattle.run_ends.specs.declared.RunRange.{RunRange}
 use Rattle.run_ends.proofs.Search.{First, first_is, first_of_lem, quarter_first}
 
 module _ (w : ℕ) (s : List ℕ) (from n : ℕ) where
@@ -32,23 +31,9 @@ module _ (w : ℕ) (s : List ℕ) (from n : ℕ) where
       go zero g = absurd (omega arith)
       go (suc k) g = let e : suc k - 1 ≡ k = omega arith in rw e
 
-  -- what a lookup promises
-  abbrev pub Looked : ℕ → ℕ → Found → Type 0
-  Looked last x r = (r ≡ found_run w s from n last x) × (Rising w s from n → r ≡ format_run w s from n last x)
-
-  looked : (last x : ℕ) {r : Found} → r ≡ found_run w s from n last x → Looked last x r
-  looked last x e = (e, λ h. e ∙ ap (found_at w s from n last x) (bisect_first x h))
-
-  pub looked_past : (last x k : ℕ) → k ≡ bisect w s from n x → n ≤ k → Looked last x Past
-  looked_past last x k e h = looked last x (rw (← e, le-ltb k n h))
-
-  pub looked_run : (last x : ℕ) (k end : ℕ) {r : Found} → k ≡ bisect w s from n x → k < n → end ≡ entry w s from k → r ≡ answered k end last x → Looked last x r
-  looked_run last x k end e h g a = looked last x (a ∙ rw (← e, lt-ltb k n h, ← g))
-
-  -- what a range promises
-  abbrev pub Ranged : ℕ → ℕ → Runs → Type 0
-  Ranged start end r =
-      (r ≡ runs_of (found_run w s from n end) start end) × (Rising w s from n → r ≡ runs_between (format_run w s from n end) start end)
+  -- .. and so does a lookup by it
+  pub found_format : (last x : ℕ) → Rising w s from n → found_run w s from n last x ≡ format_run w s from n last x
+  found_format last x h = ap (found_at w s from n last x) (bisect_first x h)
 
   module _ (start end : ℕ) (c : Climbs (entry w s from) n) where
     abbrev E : ℕ → ℕ
@@ -63,7 +48,7 @@ module _ (w : ℕ) (s : List ℕ) (from n : ℕ) where
         let f : First E n start A = first_is E n start in
         first_of_lem E n (end - 1) (record { within = f.within; before = λ k m. omega (arith, f.before k m); above = λ _. omega arith })
 
-    one_run : Range (record { 0 = A }) 1 ≡ span_of (record { 0 = A }) (record { 0 = A })
+    one_run : Some (record { first = record { 0 = A }; count = 1 }) ≡ span_of (record { 0 = A }) (record { 0 = A })
     one_run = let z : A - A + 1 ≡ 1 = omega arith in rw (le-ltb A A (omega arith), z)
 
     -- where the ends rise, the search that is not made would have answered the same
@@ -71,8 +56,8 @@ module _ (w : ℕ) (s : List ℕ) (from n : ℕ) where
     short_cut = go (ltb start end) refl (ltb A n) refl (ltb start (E A)) refl (leb (end - start) (left_of (E A) end start)) refl
       where
         go : (a : Bool) → ltb start end ≡ a → (b : Bool) → ltb A n ≡ b → (t : Bool) → ltb start (E A) ≡ t → (u : Bool) → leb (end - start) (left_of (E A) end start) ≡ u
-            → cond a (shortened (end - start) (cond b (cond t (Run (record { 0 = A }) (left_of (E A) end start)) Past) Past) (format_run w s from n end (end - 1))) None
-            ≡ cond a (spanned (cond b (cond t (Run (record { 0 = A }) (left_of (E A) end start)) Past) Past) (format_run w s from n end (end - 1))) None
+            → cond a (shortened (end - start) (cond b (cond t (Some (record { run = record { 0 = A }; left = left_of (E A) end start })) None) None) (format_run w s from n end (end - 1))) None
+            ≡ cond a (spanned (cond b (cond t (Some (record { run = record { 0 = A }; left = left_of (E A) end start })) None) None) (format_run w s from n end (end - 1))) None
         go false p b q t r u v = refl
         go true p false q t r u v = refl
         go true p true q false r u v = refl
@@ -86,43 +71,19 @@ module _ (w : ℕ) (s : List ℕ) (from n : ℕ) where
             let k : end - 1 < E A = omega arith in
             rw (v, same_run l h g, lt-ltb A n h, lt-ltb (end - 1) (E A) k) one_run
 
-  ranged : (start end : ℕ) {r : Runs} → r ≡ runs_of (found_run w s from n end) start end → Ranged start end r
-  ranged start end e = (
-    e,
-    λ h. e ∙ ap₂ (λ (j k : ℕ). cond (ltb start end) (shortened (end - start) (found_at w s from n end start j) (found_at w s from n end (end - 1) k)) None) (bisect_first start h) (bisect_first (end - 1) h)
-        ∙ short_cut start end h.climbs,
-  )
+  -- .. and the runs of a range
+  pub runs_format : (start end : ℕ) → Rising w s from n → runs_of (found_run w s from n end) start end ≡ runs_between (format_run w s from n end) start end
+  runs_format start end h =
+      ap₂ (λ (j k : ℕ). cond (ltb start end) (shortened (end - start) (found_at w s from n end start j) (found_at w s from n end (end - 1) k)) None) (bisect_first start h) (bisect_first (end - 1) h)
+      ∙ short_cut start end h.climbs
 
-  pub ranged_none : (start end : ℕ) → end ≤ start → Ranged start end None
-  ranged_none start end h = ranged start end (rw (le-ltb start end h))
-
-  module _ (start end : ℕ) (h : start < end) where
-    pub ranged_past : {f : Found} → f ≡ found_run w s from n end start → f ≡ Past → Ranged start end None
-    ranged_past e p = ranged start end (rw (lt-ltb start end h, ← e, p))
-
-    module _ {f : Found} {a : PhysicalRun} {left : ℕ} (e : f ≡ found_run w s from n end start) (p : f ≡ Run a left) where
-      -- the last row is left in the first row's run
-      pub ranged_one : end - 1 - start < left → Ranged start end (Range a 1)
-      ranged_one l = ranged start end (rw (lt-ltb start end h, ← e, p, le-leb (end - start) left (omega arith)))
-
-      module _ {g : Found} (m : left ≤ end - 1 - start) (d : g ≡ found_run w s from n end (end - 1)) where
-        pub ranged_end_past : g ≡ Past → Ranged start end None
-        ranged_end_past q = ranged start end (rw (lt-ltb start end h, ← e, p, lt-leb (end - start) left (omega arith), ← d, q))
-
-        pub ranged_span : {b : PhysicalRun} {y : ℕ} {r : Runs} → g ≡ Run b y → r ≡ span_of a b → Ranged start end r
-        ranged_span q t = ranged start end (t ∙ rw (lt-ltb start end h, ← e, p, lt-leb (end - start) left (omega arith), ← d, q))
-
-  found_below : (last x k : ℕ) {a : PhysicalRun} {y : ℕ} → Run a y ≡ found_at w s from n last x k → a.0 < n
-  found_below last x k {a} {y} e = go (ltb k n) refl (ltb x (entry w s from k)) e
+  found_below : (last x k : ℕ) {a : RunRow} → Some a ≡ found_at w s from n last x k → a.run.0 < n
+  found_below last x k {a} e = go (ltb k n) refl (ltb x (entry w s from k)) e
     where
-      go : (t : Bool) → ltb k n ≡ t → (u : Bool) → Run a y ≡ cond t (cond u (Run (record { 0 = k }) (left_of (entry w s from k) last x)) Past) Past → a.0 < n
-      go true p true q = let g : a ≡ record { 0 = k } = cc in rw g (ltb-true k n p)
+      go : (t : Bool) → ltb k n ≡ t → (u : Bool) → Some a ≡ cond t (cond u (Some (record { run = record { 0 = k }; left = left_of (entry w s from k) last x })) None) None → a.run.0 < n
+      go true p true q = let g : a ≡ record { run = record { 0 = k }; left = left_of (entry w s from k) last x } = cc in rw g (ltb-true k n p)
       go true p false q = absurd (let z : ◌≡◌ {A = ℕ} 0 1 = cc in omega arith)
       go false p u q = absurd (let z : ◌≡◌ {A = ℕ} 0 1 = cc in omega arith)
-
-  -- a run that a lookup answers is one of the n
-  pub looked_below : (last x k : ℕ) {f : Found} {a : PhysicalRun} {y : ℕ} → f ≡ found_at w s from n last x k → f ≡ Run a y → a.0 < n
-  looked_below last x k e p = found_below last x k (sym p ∙ e)
 
 -- ---- what a caller learns from an answer
 
@@ -133,46 +94,42 @@ pub record Within (n start end a m : ℕ) : Type 0 where
   pub within : a + m ≤ n
 
 module _ (w : ℕ) (s : List ℕ) (from n start end : ℕ) (look : ℕ → ℕ) where
-  pub range_within : {r : Runs} {a : PhysicalRun} {m : ℕ} → r ≡ runs_of (λ x. found_at w s from n end x (look x)) start end → r ≡ Range a m
-      → Within n start end a.0 m
-  range_within {r} {a} {m} e f = go (ltb start end) refl (sym e ∙ f)
+  pub range_within : {r : Option RunRange} {a : RunRange} → r ≡ runs_of (λ x. found_at w s from n end x (look x)) start end → r ≡ Some a
+      → Within n start end a.first.0 a.count
+  range_within {r} {a} e f = go (ltb start end) refl (sym e ∙ f)
     where
-      no : {x : Runs} → x ≡ Range a m → x ≡ None → Within n start end a.0 m
+      no : {x : Option RunRange} → x ≡ Some a → x ≡ None → Within n start end a.first.0 a.count
       no p q = absurd (let z : ◌≡◌ {A = ℕ} 0 1 = cc in omega arith)
 
       spans : (j k : PhysicalRun) → start < end → k.0 < n → (t : Bool) → ltb k.0 j.0 ≡ t
-          → cond t None (Range j (k.0 - j.0 + 1)) ≡ Range a m → Within n start end a.0 m
+          → cond t None (Some (record { first = j; count = k.0 - j.0 + 1 })) ≡ Some a → Within n start end a.first.0 a.count
       spans j k l h true p q = no q refl
       spans j k l h false p q =
           let b : j.0 ≤ k.0 = ltb-false k.0 j.0 p in
-          let u : j ≡ a = cc in
-          let v : k.0 - j.0 + 1 ≡ m = cc in
-          let x : j.0 ≡ a.0 = ap (λ (r : PhysicalRun). r.0) u in
-          record { rows = l; runs = omega arith; within = omega arith }
+          let u : a ≡ record { first = j; count = k.0 - j.0 + 1 } = cc in
+          rw u (record { rows = l; runs = omega arith; within = omega arith })
 
-      both : (j k : Found) → j ≡ found_at w s from n end start (look start) → k ≡ found_at w s from n end (end - 1) (look (end - 1)) → start < end
-          → spanned j k ≡ Range a m → Within n start end a.0 m
-      both (Run j x) (Run k y) p g l q = spans j k l (found_below w s from n end (end - 1) (look (end - 1)) g) (ltb k.0 j.0) refl q
-      both (Run j x) Past p g l q = no q refl
-      both Past k p g l q = no q refl
+      both : (j k : Option RunRow) → j ≡ found_at w s from n end start (look start) → k ≡ found_at w s from n end (end - 1) (look (end - 1)) → start < end
+          → spanned j k ≡ Some a → Within n start end a.first.0 a.count
+      both (Some j) (Some k) p g l q = spans j.run k.run l (found_below w s from n end (end - 1) (look (end - 1)) g) (ltb k.run.0 j.run.0) refl q
+      both (Some j) None p g l q = no q refl
+      both None k p g l q = no q refl
 
-      short : (j k : Found) → j ≡ found_at w s from n end start (look start) → k ≡ found_at w s from n end (end - 1) (look (end - 1)) → start < end
-          → shortened (end - start) j k ≡ Range a m → Within n start end a.0 m
-      short Past k p g l q = no q refl
-      short (Run j x) k p g l q = cut (leb (end - start) x) q
+      short : (j k : Option RunRow) → j ≡ found_at w s from n end start (look start) → k ≡ found_at w s from n end (end - 1) (look (end - 1)) → start < end
+          → shortened (end - start) j k ≡ Some a → Within n start end a.first.0 a.count
+      short None k p g l q = no q refl
+      short (Some j) k p g l q = cut (leb (end - start) j.left) q
         where
-          cut : (t : Bool) → cond t (Range j 1) (spanned (Run j x) k) ≡ Range a m → Within n start end a.0 m
+          cut : (t : Bool) → cond t (Some (record { first = j.run; count = 1 })) (spanned (Some j) k) ≡ Some a → Within n start end a.first.0 a.count
           cut true z =
-              let u : j ≡ a = cc in
-              let v : 1 ≡ m = cc in
-              let i : j.0 ≡ a.0 = ap (λ (r : PhysicalRun). r.0) u in
-              let h : j.0 < n = found_below w s from n end start (look start) p in
-              record { rows = l; runs = omega arith; within = omega arith }
-          cut false z = both (Run j x) k p g l z
+              let u : a ≡ record { first = j.run; count = 1 } = cc in
+              let h : j.run.0 < n = found_below w s from n end start (look start) p in
+              rw u (record { rows = l; runs = omega arith; within = omega arith })
+          cut false z = both (Some j) k p g l z
 
       go : (t : Bool) → ltb start end ≡ t
-          → cond t (shortened (end - start) (found_at w s from n end start (look start)) (found_at w s from n end (end - 1) (look (end - 1)))) None ≡ Range a m
-          → Within n start end a.0 m
+          → cond t (shortened (end - start) (found_at w s from n end start (look start)) (found_at w s from n end (end - 1) (look (end - 1)))) None ≡ Some a
+          → Within n start end a.first.0 a.count
       go true p q = short (found_at w s from n end start (look start)) (found_at w s from n end (end - 1) (look (end - 1))) refl refl (ltb-true start end p) q
       go false p q = no q refl
 

@@ -1,15 +1,15 @@
 -- "how many rows of the column, counting that one, still fall in the run": exactly these. Assumes nothing.
-use mathlib.Core.Path.{◌≡◌, refl, sym, ap, subst, ◌∙◌}
+use mathlib.Core.Path.{◌≡◌, refl, sym, subst, ◌∙◌}
 use mathlib.Core.Bool.{Bool, true, false, cond}
 use mathlib.Core.List.{List}
-use Prim.Native.Nat.{ℕ, ◌+◌, ◌-◌, ◌≤◌, ◌<◌, min}
+use Prim.Native.Nat.{ℕ, ◌+◌, ◌≤◌, ◌<◌}
 use native.Mathlib.Omega.{arith}
 use lib.Dec.{ltb}
-use borrow.Author.Tests.{lt-ltb, le-ltb, ltb-true, ltb-false}
+use borrow.Author.Tests.{lt-ltb, ltb-true}
 use Rattle.number.specs.Number.{entry}
 use Rattle.run_ends.specs.Lookup.{first, first_above, bisect, left_of, found_run, Climbs, Covers, Rising}
-use Rattle.run_ends.specs.declared.Found.{Found}
-use Rattle.run_ends.specs.declared.Found.TheVariants.{Run, Past}
+use Rattle.std.specs.Prelude.{Option, Some, None}
+use Rattle.run_ends.specs.declared.RunRow.{RunRow}
 use Rattle.run_ends.proofs.Search.{First, first_is, first_of_lem, climbs_le, quarter_first, covers_lt}
 
 -- the `left` rows from x on are those of run k: at least x itself, none past the column, all in run k, and the next row in the next run
@@ -58,7 +58,7 @@ module _ (e : ℕ → ℕ) (n last x : ℕ) (c : Climbs e n) (v : Covers e n las
 
 -- the same of what a lookup answers, over the width
 pub found_left : (w : ℕ) (s : List ℕ) (from n last x : ℕ) → Rising w s from n → Covers (entry w s from) n last → x < last
-    → (found_run w s from n last x ≡ Run (record { 0 = first_above w s from n x }) (left_of (entry w s from (first_above w s from n x)) last x))
+    → (found_run w s from n last x ≡ Some (record { run = record { 0 = first_above w s from n x }; left = left_of (entry w s from (first_above w s from n x)) last x }))
     × Left (entry w s from) n last x (first_above w s from n x) (left_of (entry w s from (first_above w s from n x)) last x)
 found_left w s from n last x r v h =
     let e = entry w s from in
@@ -69,15 +69,16 @@ found_left w s from n last x r v h =
 -- ---- whatever the ends are
 
 -- a run that is answered ends above the row, so that the row is counted where it stands before the last
-pub found_some : (w : ℕ) (s : List ℕ) (from n last x : ℕ) {f : Found} {k : _} {left : ℕ} → f ≡ found_run w s from n last x → f ≡ Run k left → x < last
-    → (1 ≤ left) × (x + left ≤ last)
-found_some w s from n last x {f} {k} {left} p q h = go (ltb (bisect w s from n x) n) (ltb x (entry w s from (bisect w s from n x))) refl (sym p ∙ q)
+pub found_some : (w : ℕ) (s : List ℕ) (from n last x : ℕ) {f : Option RunRow} {r : RunRow} → f ≡ found_run w s from n last x → f ≡ Some r → x < last
+    → (1 ≤ r.left) × (x + r.left ≤ last)
+found_some w s from n last x {f} {r} p q h = go (ltb (bisect w s from n x) n) (ltb x (entry w s from (bisect w s from n x))) refl (sym p ∙ q)
   where
     go : (t u : Bool) → ltb x (entry w s from (bisect w s from n x)) ≡ u
-        → cond t (cond u (Run (record { 0 = bisect w s from n x }) (left_of (entry w s from (bisect w s from n x)) last x)) Past) Past ≡ Run k left → (1 ≤ left) × (x + left ≤ last)
+        → cond t (cond u (Some (record { run = record { 0 = bisect w s from n x }; left = left_of (entry w s from (bisect w s from n x)) last x })) None) None ≡ Some r
+        → (1 ≤ r.left) × (x + r.left ≤ last)
     go true true g z =
         let a : x < entry w s from (bisect w s from n x) = ltb-true _ _ g in
-        let y : left_of (entry w s from (bisect w s from n x)) last x ≡ left = cc in
-        (omega arith, omega arith)
+        let y : r ≡ record { run = record { 0 = bisect w s from n x }; left = left_of (entry w s from (bisect w s from n x)) last x } = cc in
+        rw y (omega arith, omega arith)
     go true false g z = absurd (let o : ◌≡◌ {A = ℕ} 0 1 = cc in omega arith)
     go false u g z = absurd (let o : ◌≡◌ {A = ℕ} 0 1 = cc in omega arith)

@@ -1,38 +1,37 @@
 -- K1's column, run ends 2, 5, 9 at offset 1, computed from the definitions: the runs of its range, and the rows left at each row. Assumes nothing.
 use mathlib.Core.Path.{◌≡◌, refl}
-use Prim.Native.Nat.{ℕ, ◌+◌, ◌/◌}
+use Prim.Native.Nat.{ℕ}
 use mathlib.Core.List.{List, [], ◌∷◌, ◌++◌}
 use Rattle.number.specs.Number.{number, encode}
 use Rattle.run_ends.specs.Lookup.{scan, tally, quarter, found_run, format_run, runs_of, runs_between}
-use Rattle.run_ends.specs.declared.Found.{Found}
-use Rattle.run_ends.specs.declared.Found.TheVariants.{Run, Past}
-use Rattle.run_ends.specs.declared.Runs.TheVariants.{Range}
+use Rattle.std.specs.Prelude.{Option, Some}
+use Rattle.run_ends.specs.declared.RunRow.{RunRow}
 
 -- the run ends 2, 5, 9
 unfoldable ends : ℕ → List ℕ
 ends w = encode w 2 ++ encode w 5 ++ encode w 9
 
 -- the rows 1..5 of the column are the rows 2..6 of its run ends: the runs 1 and 2, by either lookup
-k1_runs : runs_between (format_run 4 (ends 4) 0 3 6) 2 6 ≡ Range (record { 0 = 1 }) 2
+k1_runs : runs_between (format_run 4 (ends 4) 0 3 6) 2 6 ≡ Some (record { first = record { 0 = 1 }; count = 2 })
 unfolding ends encode number scan
 k1_runs = refl
 
-k1_search : runs_of (found_run 4 (ends 4) 0 3 6) 2 6 ≡ Range (record { 0 = 1 }) 2
+k1_search : runs_of (found_run 4 (ends 4) 0 3 6) 2 6 ≡ Some (record { first = record { 0 = 1 }; count = 2 })
 unfolding ends encode number tally quarter
 k1_search = refl
 
 -- the rows 2..3 of the column are all left in run 1
-k1_one : runs_of (found_run 4 (ends 4) 0 3 5) 3 5 ≡ Range (record { 0 = 1 }) 1
+k1_one : runs_of (found_run 4 (ends 4) 0 3 5) 3 5 ≡ Some (record { first = record { 0 = 1 }; count = 1 })
 unfolding ends encode number tally quarter
 k1_one = refl
 
 -- ---- the rows left
 
-abbrev in_run : ℕ → ℕ → Found
-in_run k left = Run (record { 0 = k }) left
+abbrev in_run : ℕ → ℕ → Option RunRow
+in_run k left = Some (record { run = record { 0 = k }; left = left })
 
 -- what is found at each of the eight rows, where the column ends before row `last`
-unfoldable at_rows : (ℕ → ℕ → Found) → ℕ → List Found
+unfoldable at_rows : (ℕ → ℕ → Option RunRow) → ℕ → List (Option RunRow)
 at_rows look last = look last 1 ∷ look last 2 ∷ look last 3 ∷ look last 4 ∷ look last 5 ∷ look last 6 ∷ look last 7 ∷ look last 8 ∷ []
 
 -- length 8

@@ -1,11 +1,9 @@
 -- Run ends, and the run of a row: n signed numbers of w bytes that stand in s from the byte `from` on. Assumes nothing.
-use Rattle.std.specs.Prelude.{ℕ, zero, suc, ◌+◌, ◌*◌, ◌-◌, ◌/◌, ◌^◌, ◌≤◌, ◌<◌, min, cond, List, ltb, leb}
+use Rattle.std.specs.Prelude.{ℕ, zero, suc, ◌+◌, ◌*◌, ◌-◌, ◌/◌, ◌^◌, ◌≤◌, ◌<◌, min, cond, List, ltb, leb, Option, Some, None}
 use Rattle.number.specs.Number.{entry}
 use Rattle.run_ends.specs.declared.PhysicalRun.{PhysicalRun}
-use Rattle.run_ends.specs.declared.Found.{Found}
-use Rattle.run_ends.specs.declared.Found.TheVariants.{Run, Past}
-use Rattle.run_ends.specs.declared.Runs.{Runs}
-use Rattle.run_ends.specs.declared.Runs.TheVariants.{Range, None}
+use Rattle.run_ends.specs.declared.RunRow.{RunRow}
+use Rattle.run_ends.specs.declared.RunRange.{RunRange}
 
 -- ---- ends as a function: e k is the end of run k
 
@@ -74,41 +72,41 @@ abbrev pub left_of : ℕ → ℕ → ℕ → ℕ
 left_of end last x = min end last - x
 
 -- run k, which ends at `end`, with the rows left from x on; none where that is not above row x
-abbrev pub answered : ℕ → ℕ → ℕ → ℕ → Found
-answered k end last x = cond (ltb x end) (Run (record { 0 = k }) (left_of end last x)) Past
+abbrev pub answered : ℕ → ℕ → ℕ → ℕ → Option RunRow
+answered k end last x = cond (ltb x end) (Some (record { run = record { 0 = k }; left = left_of end last x })) None
 
 -- .. of n runs; k = n: the row is past the last run
-abbrev pub found_at : ℕ → List ℕ → ℕ → ℕ → ℕ → ℕ → ℕ → Found
-found_at w s from n last x k = cond (ltb k n) (answered k (entry w s from k) last x) Past
+abbrev pub found_at : ℕ → List ℕ → ℕ → ℕ → ℕ → ℕ → ℕ → Option RunRow
+found_at w s from n last x k = cond (ltb k n) (answered k (entry w s from k) last x) None
 
 -- the run of row x and the rows left before `last`, by the search
-abbrev pub found_run : ℕ → List ℕ → ℕ → ℕ → ℕ → ℕ → Found
+abbrev pub found_run : ℕ → List ℕ → ℕ → ℕ → ℕ → ℕ → Option RunRow
 found_run w s from n last x = found_at w s from n last x (bisect w s from n x)
 
 -- the same by the Columnar Format's run of a row
-abbrev pub format_run : ℕ → List ℕ → ℕ → ℕ → ℕ → ℕ → Found
+abbrev pub format_run : ℕ → List ℕ → ℕ → ℕ → ℕ → ℕ → Option RunRow
 format_run w s from n last x = found_at w s from n last x (first_above w s from n x)
 
 -- the runs from a to b; none where b stands before a
-abbrev pub span_of : PhysicalRun → PhysicalRun → Runs
-span_of a b = cond (ltb b.0 a.0) None (Range a (b.0 - a.0 + 1))
+abbrev pub span_of : PhysicalRun → PhysicalRun → Option RunRange
+span_of a b = cond (ltb b.0 a.0) None (Some (record { first = a; count = b.0 - a.0 + 1 }))
 
 -- the runs from that of a range's first row to that of its last
-abbrev pub spanned : Found → Found → Runs
-spanned (Run a x) (Run b y) = span_of a b
-spanned (Run a x) Past = None
-spanned Past f = None
+abbrev pub spanned : Option RunRow → Option RunRow → Option RunRange
+spanned (Some a) (Some b) = span_of a.run b.run
+spanned (Some a) None = None
+spanned None f = None
 
 -- the runs of the rows start .. end - 1, where `look` answers the run of a row
-abbrev pub runs_between : (ℕ → Found) → ℕ → ℕ → Runs
+abbrev pub runs_between : (ℕ → Option RunRow) → ℕ → ℕ → Option RunRange
 runs_between look start end = cond (ltb start end) (spanned (look start) (look (end - 1))) None
 
 -- .. where the rows are all left in the run of the first, that run alone
-abbrev pub shortened : ℕ → Found → Found → Runs
-shortened rows (Run a left) f = cond (leb rows left) (Range a 1) (spanned (Run a left) f)
-shortened rows Past f = None
+abbrev pub shortened : ℕ → Option RunRow → Option RunRow → Option RunRange
+shortened rows (Some a) f = cond (leb rows a.left) (Some (record { first = a.run; count = 1 })) (spanned (Some a) f)
+shortened rows None f = None
 
 -- the same runs, where `look` answers the run of a row and the rows left in it before `end`: the last row is looked up only where the
 -- first row's run ends before it
-abbrev pub runs_of : (ℕ → Found) → ℕ → ℕ → Runs
+abbrev pub runs_of : (ℕ → Option RunRow) → ℕ → ℕ → Option RunRange
 runs_of look start end = cond (ltb start end) (shortened (end - start) (look start) (look (end - 1))) None

@@ -1,21 +1,19 @@
 -- The Rust's `build_extend_arrays` adds what the functions of this crate add, and overflows where they refuse. Assumes nothing.
-use mathlib.Core.Path.{◌≡◌, refl, sym, ap, ap₂, ◌∙◌}
+use mathlib.Core.Path.{◌≡◌, refl, ◌∙◌}
 use mathlib.Core.Bool.{Bool, true, false, cond}
 use mathlib.Core.Logic.{⊎_elim}
-use Prim.Native.Nat.{ℕ, zero, suc, ◌+◌, ◌*◌, ◌-◌, ◌/◌, ◌^◌, ◌≤◌, ◌<◌, min}
+use Prim.Native.Nat.{ℕ, zero, suc, ◌+◌, ◌*◌, ◌-◌, ◌/◌, ◌^◌, ◌≤◌, ◌<◌}
 use native.Mathlib.Nat.{eq-or-lt_of_le, mul-add, add_assoc, add-zero}
 use native.Mathlib.Numerals.{add-one}
 use native.Mathlib.Omega.{arith}
 use mathlib.Core.List.{List, [], ◌++◌}
-use lib.ListN.{drop}
 use lib.Dec.{ltb, leb}
-use borrow.Author.Tests.{ltb-true, ltb-false, leb-true, leb-false, lt-ltb, le-ltb, le-leb, lt-leb}
-use Rattle.number.specs.Number.{number, entry, encode}
+use borrow.Author.Tests.{ltb-false, leb-true, leb-false, lt-ltb, le-ltb, le-leb, lt-leb}
+use Rattle.number.specs.Number.{entry, encode}
 use Rattle.run_ends.specs.Lookup.{first_above, Climbs, Covers, format_run, Rising, runs_between}
 use Rattle.run_ends.specs.Clip.{clip, clipped}
-use Rattle.run_ends.specs.copies.Extend.{ValuesRange, none, some, Extended, ok, overflow, panic, branches, extend_loop, extend_arrays, added}
-use Rattle.run_ends.specs.declared.Runs.{Runs}
-use Rattle.run_ends.specs.declared.Runs.TheVariants.{Range, None}
+use Rattle.run_ends.specs.copies.Extend.{ValuesRange, none, some, Extended, ok, overflow, branches, extend_loop, extend_arrays, added}
+use Rattle.std.specs.Prelude.{Some}
 use Rattle.run_ends.proofs.Search.{First, first_is, climbs_lt, climbs_le, covers_lt}
 
 -- ---- the three branches
@@ -199,7 +197,7 @@ module _ (w : ℕ) (s : List ℕ) (from n start end : ℕ) (climbs : Climbs (ent
   first_last = first_le_last w s from n start end 0 A B climbs l a_is b_is first_below last_below
 
   -- the runs of a range that the run ends cover
-  pub range_is : runs_between (format_run w s from n end) start end ≡ Range (record { 0 = A }) (B - A + 1)
+  pub range_is : runs_between (format_run w s from n end) start end ≡ Some (record { first = record { 0 = A }; count = B - A + 1 })
   range_is = rw (lt-ltb start end l, lt-ltb A n first_below, lt-ltb start (entry w s from A) (a_is.above first_below), lt-ltb B n last_below, lt-ltb (end - 1) (entry w s from B) (b_is.above last_below), le-ltb B A first_last)
 
   extend_final : (last : ℕ) → extend_loop w (entry w s from) start end n 0 0 last [] none ≡ Final w s from n start end last A B

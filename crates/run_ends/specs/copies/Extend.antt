@@ -2,11 +2,10 @@
 -- Follows arrow-data 60.1.0 src/transform/run.rs, Apache-2.0; see NOTICE. Assumes nothing.
 -- Its `typed_slice` has `length` run ends, so that the test `i < typed_slice.len()` holds at each turn. Where the ends rise, none is
 -- negative, so that `to_usize` answers; and what `usize_as` casts is at most a run end, so that the cast keeps it.
-use Rattle.std.specs.Prelude.{ℕ, zero, suc, ◌+◌, ◌*◌, ◌-◌, ◌/◌, ◌^◌, Bool, cond, ◌&&◌, List, [], ◌++◌, ltb, leb}
+use Rattle.std.specs.Prelude.{ℕ, zero, suc, ◌+◌, ◌*◌, ◌-◌, ◌/◌, ◌^◌, cond, ◌&&◌, List, [], ◌++◌, ltb, leb, Option, Some, None}
 use Rattle.number.specs.Number.{entry, encode}
 use Rattle.run_ends.specs.Clip.{clipped}
-use Rattle.run_ends.specs.declared.Runs.{Runs}
-use Rattle.run_ends.specs.declared.Runs.TheVariants.{Range, None}
+use Rattle.run_ends.specs.declared.RunRange.{RunRange}
 
 -- values_range
 pub data ValuesRange : Type 0 where
@@ -52,9 +51,9 @@ abbrev pub extend_arrays : ℕ → List ℕ → ℕ → ℕ → ℕ → ℕ → 
 extend_arrays w s from n start len last = extend_loop w (entry w s from) start (start + len) n 0 0 last [] none
 
 -- what a copy of the rows start .. end - 1 adds by the functions of this crate, from the runs of the range on
-abbrev pub added : ℕ → List ℕ → ℕ → ℕ → ℕ → ℕ → Runs → Extended
-added w s from start end last (Range first count) =
+abbrev pub added : ℕ → List ℕ → ℕ → ℕ → ℕ → ℕ → Option RunRange → Extended
+added w s from start end last (Some r) =
     cond (ltb (last + (end - start)) (256 ^ w / 2))
-    (ok (clipped w s (from + w * first.0) count start end last) (some first.0 (first.0 + count)))
+    (ok (clipped w s (from + w * r.first.0) r.count start end last) (some r.first.0 (r.first.0 + r.count)))
     overflow
 added w s from start end last None = ok [] none
