@@ -1,23 +1,14 @@
--- Highest bits gathered by `|`: all are 0 where every row obeys. Assumes nothing.
-use Rattle.std.proofs.Common.{◌≡◌, ℕ, suc, ◌+◌, ◌%◌, ◌^◌, ◌<◌, ◌≤◌, Bool, true, false, ◌&&◌, T, ltb, leb, refl, ⊎_elim, eq-or-lt_of_le, arith, le→leb, ltb→lt, lt→ltb, leb→le}
-use lib.Bits.{bit_or, or_lt, or_add_and, and_le_l, and_le_r}
+-- Highest bits gathered by `|`: all are 0 where every row obeys. Of numbers of w bytes. Assumes nothing.
+use Rattle.std.proofs.Common.{◌≡◌, ℕ, suc, ◌+◌, ◌-◌, ◌*◌, ◌%◌, ◌^◌, ◌<◌, ◌≤◌, Bool, true, false, ◌&&◌, T, ltb, leb, refl, ◌∙◌, ⊎_elim, eq-or-lt_of_le, arith, le→leb, ltb→lt, lt→ltb, leb→le, ltb-true, ltb-false}
+use Rattle.std.proofs.Math.Nat.{mod-eq_of_lt, mod-lt, add-mod_left}
+use Rattle.std.proofs.lemmas.Nat.{or_lt, le_or_l, le_or_r}
+use Rattle.std.specs.Prelude.{bit_or}
+use Rattle.number.specs.Sizes.{Sized}
 use Rattle.columnar.specs.Types.{half}
 use Rattle.columnar.specs.Test.{every}
 use Rattle.columnar.proofs.Test.{every_out, every_in}
 use Rattle.row_rules.specs.Rules.{never_falls_lem, view_row}
-
--- the highest of 64 bits is 0
-abbrev Low : ℕ → Type 0
-Low a = a < 9223372036854775808
-
-low_or : (a b : ℕ) → Low a → Low b → Low (bit_or a b)
-low_or a b h g = or_lt 63 a b h g
-
-low_left : (a b : ℕ) → Low (bit_or a b) → Low a
-low_left a b h = omega (arith, or_add_and a b, and_le_r a b, h)
-
-low_right : (a b : ℕ) → Low (bit_or a b) → Low b
-low_right a b h = omega (arith, or_add_and a b, and_le_l a b, h)
+use Rattle.row_rules.proofs.Sizes.{half_bits, whole_bits, two_halves, half_some, none_is}
 
 -- ---- tests
 
@@ -43,116 +34,198 @@ second false b h = absurd h
 by_last : (Q : ℕ → Type 0) (i : ℕ) → Q i → ((j : ℕ) → j < i → Q j) → (j : ℕ) → j < i + 1 → Q j
 by_last Q i h f j l = ⊎_elim (λ (e : j ≡ i). rw e h) (λ (m : j < i). f j m) (eq-or-lt_of_le (omega arith))
 
--- ---- rows that are tested one by one
+-- ---- numbers of w bytes
 
-module _ (p : ℕ → Bool) (n : ℕ) where
-  -- what is gathered of the first i rows
-  pub record Rows (i all : ℕ) : Type 0 where
-    pub out : Low all → (j : ℕ) → j < i → T (p j)
-    pub back : T (every p n) → Low all
+module _ {w : ℕ} (s : Sized w) where
+  -- the highest bit is 0
+  abbrev Low : ℕ → Type 0
+  Low a = a < half w
 
-  pub rows_none : Rows 0 0
-  rows_none = record { out = λ l j k. absurd (omega arith); back = λ t. omega arith }
+  abbrev Fits : ℕ → Type 0
+  Fits a = a < 256 ^ w
 
-  pub rows_more : {i all : ℕ} (x : ℕ) → Rows i all → i < n → ltb x 9223372036854775808 ≡ p i → Rows (i + 1) (bit_or all x)
-  rows_more {i} {all} x r l e = record {
-    out = λ q. by_last (λ j. T (p j)) i (rw (← e) (lt→ltb x 9223372036854775808 (low_right all x q))) (r.out (low_left all x q));
-    back = λ t. low_or all x (r.back t) (ltb→lt x 9223372036854775808 (rw e (every_out p n t i l)));
-  }
+  module _ (a b : ℕ) {r : ℕ} (e : r ≡ bit_or a b % 256 ^ w) (h : Fits a) (g : Fits b) where
+    or_fits : Fits (bit_or a b)
+    or_fits = rw (whole_bits s) (or_lt (8 * w) a b (rw (whole_bits s) at h) (rw (whole_bits s) at g))
 
-  pub rows_all : {i all : ℕ} → Rows i all → i ≤ n → n ≤ i → ltb all 9223372036854775808 ≡ every p n
-  rows_all {i} {all} r l m =
-      same _ _ (λ t. every_in p n (λ j k. r.out (ltb→lt all 9223372036854775808 t) j (omega arith))) (λ t. lt→ltb all 9223372036854775808 (r.back t))
+    both_is : r ≡ bit_or a b
+    both_is = e ∙ mod-eq_of_lt or_fits
 
--- ---- offsets
+    pub both_fits : Fits r
+    both_fits = rw both_is or_fits
 
--- a difference d of b and a, as the machine subtracts
-rises : (a b d : ℕ) → (d + a) % 2 ^ 64 ≡ b → Low a → Low d → a ≤ b
-rises a b d e h g = omega (arith, e)
+    both_low : Low a → Low b → Low r
+    both_low p q = rw both_is (rw (half_bits s) (or_lt (8 * w - 1) a b (rw (half_bits s) at p) (rw (half_bits s) at q)))
 
-difference : (a b d : ℕ) → d < 2 ^ 64 → (d + a) % 2 ^ 64 ≡ b → a ≤ b → Low b → Low d
-difference a b d l e h g = omega (arith, e)
+    both_left : Low r → Low a
+    both_left p = omega (arith, both_is, le_or_l a b)
 
-module _ (e : ℕ → ℕ) (n : ℕ) where
-  abbrev Sound : Type 0
-  Sound = ((j : ℕ) → j < n + 1 → Low (e j)) × ((j : ℕ) → j < n → e j ≤ e (j + 1))
+    both_right : Low r → Low b
+    both_right p = omega (arith, both_is, le_or_r a b)
 
-  abbrev not_negative : Bool
-  not_negative = every (λ i. ltb (e i) (half 8)) (suc n)
+  -- a difference d of b and a, as the machine subtracts
+  module _ (a b : ℕ) {d : ℕ} (e : d ≡ (b + (256 ^ w - a)) % 256 ^ w) (h : Fits a) (g : Fits b) where
+    pub less_fits : Fits d
+    less_fits = rw e (mod-lt (b + (256 ^ w - a)) (omega (arith, two_halves s, half_some s)))
 
-  abbrev not_falling : Bool
-  not_falling = every (λ i. leb (e i) (e (i + 1))) n
+    less_is : a ≤ b → d ≡ b - a
+    less_is l =
+        let q : b + (256 ^ w - a) ≡ 256 ^ w + (b - a) = omega arith in
+        e ∙ rw (q, add-mod_left (256 ^ w) (b - a)) (mod-eq_of_lt (omega arith))
 
-  to_sound : T (never_falls_lem e 8 n) → Sound
-  unfolding never_falls_lem
-  to_sound t = (
-    λ j l. ltb→lt (e j) (half 8) (every_out (λ i. ltb (e i) (half 8)) (suc n) (first not_negative not_falling t) j (omega arith)),
-    λ j l. leb→le (e j) (e (j + 1)) (every_out (λ i. leb (e i) (e (i + 1))) n (second not_negative not_falling t) j l),
-  )
+    less_under : Low a → Low d → a ≤ b
+    less_under p q = go (ltb b a) refl p q
+      where
+        go : (t : Bool) → ltb b a ≡ t → a < half w → d < half w → a ≤ b
+        go true k p q =
+            let l : b < a = ltb-true b a k in
+            let m : d ≡ b + (256 ^ w - a) = e ∙ mod-eq_of_lt (omega arith) in
+            absurd (omega (arith, two_halves s))
+        go false k p q = ltb-false b a k
 
-  from_sound : Sound → T (never_falls_lem e 8 n)
-  unfolding never_falls_lem
-  from_sound s =
-      two not_negative not_falling (every_in (λ i. ltb (e i) (half 8)) (suc n) (λ j l. lt→ltb (e j) (half 8) (s.0 j (omega arith))))
-      (every_in (λ i. leb (e i) (e (i + 1))) n (λ j l. le→leb (e j) (e (j + 1)) (s.1 j l)))
+  -- ---- rows that are tested one by one
 
-  -- what is gathered of the first i offsets, and the last
-  pub record Offsets (i all : ℕ) : Type 0 where
-    pub within : i ≤ n
-    pub last : Low all → Low (e n)
-    pub low : Low all → (j : ℕ) → j < i → Low (e j)
-    pub rise : Low all → (j : ℕ) → j < i → e j ≤ e (j + 1)
-    pub back : Sound → Low all
+  module _ (p : ℕ → Bool) (n : ℕ) where
+    -- what is gathered of the first i rows
+    pub record Rows (i all : ℕ) : Type 0 where
+      pub fits : Fits all
+      pub out : Low all → (j : ℕ) → j < i → T (p j)
+      pub back : T (every p n) → Low all
 
-  pub offsets_none : {all : ℕ} → all ≡ e n → Offsets 0 all
-  offsets_none {all} h = record {
-    within = omega arith;
-    last = λ l. omega (arith, h);
-    low = λ l j k. absurd (omega arith);
-    rise = λ l j k. absurd (omega arith);
-    back = λ s. omega (arith, h, s.0 n (omega arith));
-  }
+    pub rows_none : {all : ℕ} → all ≡ 0 % 256 ^ w → Rows 0 all
+    rows_none {all} e =
+        let z : all ≡ 0 = none_is s e in
+        record { fits = omega (arith, z, two_halves s, half_some s); out = λ l j k. absurd (omega arith); back = λ t. omega (arith, z, half_some s) }
 
-  pub offsets_more : {i all here next d : ℕ} → Offsets i all → i < n → here ≡ e i → next ≡ e (i + 1) → d < 2 ^ 64 → (d + here) % 2 ^ 64 ≡ next → Offsets (i + 1) (bit_or all (bit_or here d))
-  offsets_more {i} {all} {here} {next} {d} o l f g h m = record {
-    within = omega arith;
-    last = λ q. o.last (low_left all (bit_or here d) q);
-    low = λ q. by_last (λ j. Low (e j)) i (omega (arith, f, low_left here d (low_right all (bit_or here d) q))) (o.low (low_left all (bit_or here d) q));
-    rise =
-        λ q. by_last (λ j. e j ≤ e (j + 1)) i
-        (omega (arith, f, g, rises here next d m (low_left here d (low_right all (bit_or here d) q)) (low_right here d (low_right all (bit_or here d) q))))
-        (o.rise (low_left all (bit_or here d) q));
-    back =
-        λ s. low_or all (bit_or here d) (o.back s)
-        (low_or here d (omega (arith, f, s.0 i (omega arith))) (difference here next d h m (omega (arith, f, g, s.1 i l)) (omega (arith, g, s.0 (i + 1) (omega arith)))));
-  }
+    pub rows_more : {i all new : ℕ} (x : ℕ) → Rows i all → i < n → Fits x → ltb x (half w) ≡ p i → new ≡ bit_or all x % 256 ^ w → Rows (i + 1) new
+    rows_more {i} {all} {new} x r l f e h = record {
+      fits = both_fits all x h r.fits f;
+      out = λ q. by_last (λ j. T (p j)) i (rw (← e) (lt→ltb x (half w) (both_right all x h r.fits f q))) (r.out (both_left all x h r.fits f q));
+      back = λ t. both_low all x h r.fits f (r.back t) (ltb→lt x (half w) (rw e (every_out p n t i l)));
+    }
 
-  pub offsets_all : {i all : ℕ} → Offsets i all → n ≤ i → ltb all 9223372036854775808 ≡ never_falls_lem e 8 n
-  offsets_all {i} {all} o l =
-      same _ _
-      (λ t. let q = ltb→lt all 9223372036854775808 t in
-      from_sound (by_last (λ j. Low (e j)) n (o.last q) (λ j k. o.low q j (omega (arith, o.within))), λ j k. o.rise q j (omega (arith, o.within))))
-      (λ t. lt→ltb all 9223372036854775808 (o.back (to_sound t)))
+    pub rows_all : {all : ℕ} → Rows n all → ltb all (half w) ≡ every p n
+    rows_all {all} r =
+        same _ _ (λ t. every_in p n (λ j k. r.out (ltb→lt all (half w) t) j k)) (λ t. lt→ltb all (half w) (r.back t))
 
--- ---- a row of a list-view
+  -- ---- offsets
 
--- what is left of the child behind the offset, and behind the size
-pub view_gathered : (child o z left rest : ℕ) → child < 2 ^ 63 → left < 2 ^ 64 → rest < 2 ^ 64 → (left + o) % 2 ^ 64 ≡ child → (rest + z) % 2 ^ 64 ≡ left
-    → ltb (bit_or (bit_or (bit_or o z) left) rest) (half 8) ≡ view_row 8 child o z
-unfolding view_row
-view_gathered child o z left rest h u v e f =
-    same _ _
-    (λ t. let q = ltb→lt (bit_or (bit_or (bit_or o z) left) rest) (half 8) t in
-    let r = low_right (bit_or (bit_or o z) left) rest q in
-    let q2 = low_left (bit_or (bit_or o z) left) rest q in
-    let l = low_right (bit_or o z) left q2 in
-    let q3 = low_left (bit_or o z) left q2 in
-    let a = low_left o z q3 in
-    let b = low_right o z q3 in
-    two (ltb o (half 8) && ltb z (half 8)) (leb (o + z) child) (two (ltb o (half 8)) (ltb z (half 8)) (lt→ltb o (half 8) a) (lt→ltb z (half 8) b)) (le→leb (o + z) child (omega (arith, e, f, a, b, l, r))))
-    (λ t. let a = ltb→lt o (half 8) (first (ltb o (half 8)) (ltb z (half 8)) (first (ltb o (half 8) && ltb z (half 8)) (leb (o + z) child) t)) in
-    let b = ltb→lt z (half 8) (second (ltb o (half 8)) (ltb z (half 8)) (first (ltb o (half 8) && ltb z (half 8)) (leb (o + z) child) t)) in
-    let s = leb→le (o + z) child (second (ltb o (half 8) && ltb z (half 8)) (leb (o + z) child) t) in
-    let l : Low left = omega (arith, e, a, b, s, h, u) in
-    let r : Low rest = omega (arith, f, a, b, l, v, e, s, h) in
-    lt→ltb (bit_or (bit_or (bit_or o z) left) rest) (half 8) (low_or (bit_or (bit_or o z) left) rest (low_or (bit_or o z) left (low_or o z a b) l) r))
+  module _ (e : ℕ → ℕ) (n : ℕ) where
+    abbrev Sound : Type 0
+    Sound = ((j : ℕ) → j < n + 1 → Low (e j)) × ((j : ℕ) → j < n → e j ≤ e (j + 1))
+
+    abbrev not_negative : Bool
+    not_negative = every (λ i. ltb (e i) (half w)) (suc n)
+
+    abbrev not_falling : Bool
+    not_falling = every (λ i. leb (e i) (e (i + 1))) n
+
+    to_sound : T (never_falls_lem e w n) → Sound
+    unfolding never_falls_lem
+    to_sound t = (
+      λ j l. ltb→lt (e j) (half w) (every_out (λ i. ltb (e i) (half w)) (suc n) (first not_negative not_falling t) j (omega arith)),
+      λ j l. leb→le (e j) (e (j + 1)) (every_out (λ i. leb (e i) (e (i + 1))) n (second not_negative not_falling t) j l),
+    )
+
+    from_sound : Sound → T (never_falls_lem e w n)
+    unfolding never_falls_lem
+    from_sound o =
+        two not_negative not_falling (every_in (λ i. ltb (e i) (half w)) (suc n) (λ j l. lt→ltb (e j) (half w) (o.0 j (omega arith))))
+        (every_in (λ i. leb (e i) (e (i + 1))) n (λ j l. le→leb (e j) (e (j + 1)) (o.1 j l)))
+
+    -- what is gathered of the first i offsets, and the last
+    pub record Offsets (i all : ℕ) : Type 0 where
+      pub fits : Fits all
+      pub last : Low all → Low (e n)
+      pub low : Low all → (j : ℕ) → j < i → Low (e j)
+      pub rise : Low all → (j : ℕ) → j < i → e j ≤ e (j + 1)
+      pub back : Sound → Low all
+
+    pub offsets_none : {all : ℕ} → Fits (e n) → all ≡ e n → Offsets 0 all
+    offsets_none {all} f h = record {
+      fits = omega (arith, h);
+      last = λ l. omega (arith, h);
+      low = λ l j k. absurd (omega arith);
+      rise = λ l j k. absurd (omega arith);
+      back = λ o. omega (arith, h, o.0 n (omega arith));
+    }
+
+    pub offsets_more : {i all here next d both new : ℕ} → Offsets i all → i < n → ((j : ℕ) → Fits (e j)) → here ≡ e i → next ≡ e (i + 1)
+        → d ≡ (next + (256 ^ w - here)) % 256 ^ w → both ≡ bit_or here d % 256 ^ w → new ≡ bit_or all both % 256 ^ w → Offsets (i + 1) new
+    offsets_more {i} {all} {here} {next} {d} {both} {new} o l f x y z u v =
+        let a : Fits here = omega (arith, x, f i) in
+        let b : Fits next = omega (arith, y, f (i + 1)) in
+        let c : Fits d = less_fits here next z a b in
+        let m : Fits both = both_fits here d u a c in
+        let left : Low new → Low all = both_left all both v o.fits m in
+        let right : Low new → Low both = both_right all both v o.fits m in
+        record {
+          fits = both_fits all both v o.fits m;
+          last = λ q. o.last (left q);
+          low = λ q. by_last (λ j. Low (e j)) i (omega (arith, x, both_left here d u a c (right q))) (o.low (left q));
+          rise =
+              λ q. by_last (λ j. e j ≤ e (j + 1)) i
+              (omega (arith, x, y, less_under here next z a b (both_left here d u a c (right q)) (both_right here d u a c (right q))))
+              (o.rise (left q));
+          back =
+              λ t. both_low all both v o.fits m (o.back t)
+              (both_low here d u a c (omega (arith, x, t.0 i (omega arith)))
+              (omega (arith, x, y, t.0 (i + 1) (omega arith), less_is here next z a b (omega (arith, x, y, t.1 i l)))));
+        }
+
+    pub offsets_all : {all : ℕ} → Offsets n all → ltb all (half w) ≡ never_falls_lem e w n
+    offsets_all {all} o =
+        same _ _
+        (λ t. let q = ltb→lt all (half w) t in from_sound (by_last (λ j. Low (e j)) n (o.last q) (o.low q), o.rise q))
+        (λ t. lt→ltb all (half w) (o.back (to_sound t)))
+
+  -- ---- a row of a list-view
+
+  -- what is left of the child behind the offset, and behind the size
+  module _ (child o z : ℕ) {left rest front behind all : ℕ} (h : Low child) (f : Fits o) (g : Fits z)
+      (x : left ≡ (child + (256 ^ w - o)) % 256 ^ w) (y : rest ≡ (left + (256 ^ w - z)) % 256 ^ w)
+      (u : front ≡ bit_or o z % 256 ^ w) (v : behind ≡ bit_or left rest % 256 ^ w) (e : all ≡ bit_or front behind % 256 ^ w) where
+    child_fits : Fits child
+    child_fits = omega (arith, two_halves s)
+
+    left_fits : Fits left
+    left_fits = less_fits o child x f child_fits
+
+    rest_fits : Fits rest
+    rest_fits = less_fits z left y g left_fits
+
+    front_fits : Fits front
+    front_fits = both_fits o z u f g
+
+    behind_fits : Fits behind
+    behind_fits = both_fits left rest v left_fits rest_fits
+
+    pub view_fits : Fits all
+    view_fits = both_fits front behind e front_fits behind_fits
+
+    to_row : Low all → Low o × Low z × (o + z ≤ child)
+    to_row q =
+        let q1 = both_left front behind e front_fits behind_fits q in
+        let q2 = both_right front behind e front_fits behind_fits q in
+        let a = both_left o z u f g q1 in
+        let b = both_right o z u f g q1 in
+        let l = both_left left rest v left_fits rest_fits q2 in
+        let r = both_right left rest v left_fits rest_fits q2 in
+        let c : o ≤ child = less_under o child x f child_fits a l in
+        let d : z ≤ left = less_under z left y g left_fits b r in
+        (a, b, omega (arith, c, d, less_is o child x f child_fits c))
+
+    from_row : Low o → Low z → o + z ≤ child → Low all
+    from_row a b c =
+        let l : left ≡ child - o = less_is o child x f child_fits (omega arith) in
+        let r : rest ≡ left - z = less_is z left y g left_fits (omega (arith, l)) in
+        both_low front behind e front_fits behind_fits (both_low o z u f g a b) (both_low left rest v left_fits rest_fits (omega (arith, l)) (omega (arith, l, r)))
+
+    pub view_gathered : ltb all (half w) ≡ view_row w child o z
+    unfolding view_row
+    view_gathered =
+        same _ _
+        (λ t. let q = to_row (ltb→lt all (half w) t) in
+        two (ltb o (half w) && ltb z (half w)) (leb (o + z) child) (two (ltb o (half w)) (ltb z (half w)) (lt→ltb o (half w) q.0) (lt→ltb z (half w) q.1)) (le→leb (o + z) child q.2))
+        (λ t. let both = first (ltb o (half w) && ltb z (half w)) (leb (o + z) child) t in
+        lt→ltb all (half w) (from_row (ltb→lt o (half w) (first (ltb o (half w)) (ltb z (half w)) both)) (ltb→lt z (half w) (second (ltb o (half w)) (ltb z (half w)) both)) (leb→le (o + z) child (second (ltb o (half w) && ltb z (half w)) (leb (o + z) child) t))))

@@ -2,3 +2,4 @@
 pub mod Laws
 mod Gather
 pub mod Links
+pub mod Sizes

@@ -6,20 +6,19 @@ ghost use Rattle.columnar.specs.Test.{member};
 ghost use Rattle.row_rules.specs.slots.Slots.{ids_declared, field_of, bound_of, positions_within, keys_below, valid_keys_below, lies_in, view_good, views_good, valid_views_good};
 
 use array_data::lent_tables;
+use number::Unsigned;
 use utils::byte_view::ByteView;
 
 // The first field with that id, or the number of fields where none has it.
 pub fn field_of(ids: &[u8], id: u8) -> usize
     ensures { result ≡ field_of ids.now id }
 {
-    let mut i = 0;
-    while i < ids.len() {
+    for i in 0..ids.len() {
         if ids[i] == id {
             return i;
         }
-        i += 1;
     }
-    i
+    ids.len()
 }
 
 // Of each byte: 1 where it is one of ids, else 0.
@@ -27,11 +26,8 @@ fn declared(ids: &[u8]) -> [u8; 256]
     ensures { (c : ℕ) → c < 256 → slice_index result c ≡ (if member c ids.now then 1 else 0) }
 {
     let mut table = [0u8; 256];
-    let mut i = ids.len();
-    while 0 < i {
-        i -= 1;
-        let id = ids[i] as usize;
-        table[id] = 1;
+    for &id in ids {
+        table[id as usize] = 1;
     }
     table
 }
@@ -43,11 +39,9 @@ pub fn ids_declared(body: &[u8], at: usize, n: usize, ids: &[u8]) -> bool
 {
     let table = declared(ids);
     let mut all = 1;
-    let mut i = 0;
-    while i < n {
+    for i in 0..n {
         let id = body[at + i] as usize;
         all &= table[id];
-        i += 1;
     }
     all != 0
 }
@@ -72,9 +66,7 @@ fn bounds(ids: &[u8], lens: &[u64]) -> [u32; 256]
     ensures { (c : ℕ) → c < 256 → slice_index result c ≡ bound_of ids.now lens.now c }
 {
     let mut table = [0u32; 256];
-    let mut i = ids.len();
-    while 0 < i {
-        i -= 1;
+    for i in (0..ids.len()).rev() {
         let id = ids[i] as usize;
         table[id] = field_bound(lens, i);
     }
@@ -87,88 +79,59 @@ pub fn dense_good(body: &[u8], at: usize, too: usize, n: usize, ids: &[u8], lens
     ensures { result ≡ ids_declared body.now at ids.now n && positions_within body.now at too ids.now lens.now n }
 {
     let table = bounds(ids, lens);
-    let mut i = 0;
-    while i < n {
-        let p = number::read_u32(body, too + 4 * i);
+    for i in 0..n {
+        let p = u32::read(body, too + 4 * i);
         let id = body[at + i] as usize;
         if table[id] <= p {
             return false;
         }
-        i += 1;
     }
     true
 }
 
-// Whether each of the n keys at `at` is below bound: the largest of them is, which is found many at once.
-pub fn keys_below_u8(body: &[u8], at: usize, n: usize, bound: u64) -> bool
-    requires { at + n ≤ length body.now }
-    ensures { result ≡ keys_below 1 body.now at bound n }
+// Whether each of the n keys at `at` is below bound: the largest of them is. Of bytes it is found many at once; wider keys take up to twice
+// the time of the loop in `keys_below`, since the baseline has no such instruction for them.
+fn largest_below<N: Unsigned>(body: &[u8], at: usize, n: usize, bound: u64) -> bool
+    requires { at + N.SIZE * n ≤ length body.now }
+    ensures { result ≡ keys_below N.SIZE body.now at bound n }
 {
-    if 255 < bound {
-        return true;
-    }
     if bound == 0 {
         return n == 0;
     }
-    let mut top: u8 = 0;
-    let mut i = 0;
-    while i < n {
-        let key = number::read_u8(body, at + i);
-        if top < key {
+    let mut top = N::truncate(0);
+    for i in 0..n {
+        let key = N::read(body, at + N::SIZE * i);
+        if top.to_u64() < key.to_u64() {
             top = key;
         }
-        i += 1;
     }
-    top < (bound as u8)
-}
-
-// The same of the keys whose validity bit is 1: bit a of those from the byte `from` on is the first key's.
-pub fn valid_keys_below_u8(
-    body: &[u8],
-    at: usize,
-    n: usize,
-    bound: u64,
-    from: usize,
-    a: usize,
-) -> bool
-    requires { (at + n ≤ length body.now) × (8 * from + a + n ≤ 8 * length body.now) × (a + n < 2 ^ 64) }
-    ensures { result ≡ valid_keys_below 1 body.now at bound from a n }
-{
-    let mut i = 0;
-    while i < n {
-        if bound <= (number::read_u8(body, at + i) as u64) {
-            if bits::get_bit(body, from, a + i) == 1 {
-                return false;
-            }
-        }
-        i += 1;
-    }
-    true
+    top.to_u64() < bound
 }
 
 // Whether each of the n keys at `at` is below bound.
-pub fn keys_below_u16(body: &[u8], at: usize, n: usize, bound: u64) -> bool
-    requires { at + 2 * n ≤ length body.now }
-    ensures { result ≡ keys_below 2 body.now at bound n }
+pub fn keys_below<N: Unsigned>(body: &[u8], at: usize, n: usize, bound: u64) -> bool
+    requires { at + N.SIZE * n ≤ length body.now }
+    ensures { result ≡ keys_below N.SIZE body.now at bound n }
 {
-    if 65535 < bound {
+    let most = N::truncate(bound);
+    if most.to_u64() < bound {
         return true;
     }
-    let most = bound as u16;
+    if N::SIZE == 1 {
+        return largest_below::<N>(body, at, n, bound);
+    }
     let mut good = true;
-    let mut i = 0;
-    while i < n {
-        let key = number::read_u16(body, at + 2 * i);
-        if most <= key {
+    for i in 0..n {
+        let key = N::read(body, at + N::SIZE * i);
+        if most.to_u64() <= key.to_u64() {
             good = false;
         }
-        i += 1;
     }
     good
 }
 
 // The same of the keys whose validity bit is 1: bit a of those from the byte `from` on is the first key's.
-pub fn valid_keys_below_u16(
+pub fn valid_keys_below<N: Unsigned>(
     body: &[u8],
     at: usize,
     n: usize,
@@ -176,103 +139,15 @@ pub fn valid_keys_below_u16(
     from: usize,
     a: usize,
 ) -> bool
-    requires { (at + 2 * n ≤ length body.now) × (8 * from + a + n ≤ 8 * length body.now) × (a + n < 2 ^ 64) }
-    ensures { result ≡ valid_keys_below 2 body.now at bound from a n }
+    requires { (at + N.SIZE * n ≤ length body.now) × (8 * from + a + n ≤ 8 * length body.now) × (a + n < 2 ^ 64) }
+    ensures { result ≡ valid_keys_below N.SIZE body.now at bound from a n }
 {
-    let mut i = 0;
-    while i < n {
-        if bound <= (number::read_u16(body, at + 2 * i) as u64) {
+    for i in 0..n {
+        if bound <= N::read(body, at + N::SIZE * i).to_u64() {
             if bits::get_bit(body, from, a + i) == 1 {
                 return false;
             }
         }
-        i += 1;
-    }
-    true
-}
-
-// Whether each of the n keys at `at` is below bound.
-pub fn keys_below_u32(body: &[u8], at: usize, n: usize, bound: u64) -> bool
-    requires { at + 4 * n ≤ length body.now }
-    ensures { result ≡ keys_below 4 body.now at bound n }
-{
-    if 4294967295 < bound {
-        return true;
-    }
-    let most = bound as u32;
-    let mut good = true;
-    let mut i = 0;
-    while i < n {
-        let key = number::read_u32(body, at + 4 * i);
-        if most <= key {
-            good = false;
-        }
-        i += 1;
-    }
-    good
-}
-
-// The same of the keys whose validity bit is 1: bit a of those from the byte `from` on is the first key's.
-pub fn valid_keys_below_u32(
-    body: &[u8],
-    at: usize,
-    n: usize,
-    bound: u64,
-    from: usize,
-    a: usize,
-) -> bool
-    requires { (at + 4 * n ≤ length body.now) × (8 * from + a + n ≤ 8 * length body.now) × (a + n < 2 ^ 64) }
-    ensures { result ≡ valid_keys_below 4 body.now at bound from a n }
-{
-    let mut i = 0;
-    while i < n {
-        if bound <= (number::read_u32(body, at + 4 * i) as u64) {
-            if bits::get_bit(body, from, a + i) == 1 {
-                return false;
-            }
-        }
-        i += 1;
-    }
-    true
-}
-
-// Whether each of the n keys at `at` is below bound.
-pub fn keys_below_u64(body: &[u8], at: usize, n: usize, bound: u64) -> bool
-    requires { at + 8 * n ≤ length body.now }
-    ensures { result ≡ keys_below 8 body.now at bound n }
-{
-    let mut good = true;
-    let mut i = 0;
-    while i < n {
-        let key = number::read_u64(body, at + 8 * i);
-        if bound <= key {
-            good = false;
-        }
-        i += 1;
-    }
-    good
-}
-
-// The same of the keys whose validity bit is 1: bit a of those from the byte `from` on is the first key's.
-pub fn valid_keys_below_u64(
-    body: &[u8],
-    at: usize,
-    n: usize,
-    bound: u64,
-    from: usize,
-    a: usize,
-) -> bool
-    requires { (at + 8 * n ≤ length body.now) × (8 * from + a + n ≤ 8 * length body.now) × (a + n < 2 ^ 64) }
-    ensures { result ≡ valid_keys_below 8 body.now at bound from a n }
-{
-    let mut i = 0;
-    while i < n {
-        if bound <= number::read_u64(body, at + 8 * i) {
-            if bits::get_bit(body, from, a + i) == 1 {
-                return false;
-            }
-        }
-        i += 1;
     }
     true
 }
@@ -291,7 +166,7 @@ fn lies_in(body: &[u8], start: u64, bytes: u64, v: ByteView) -> bool
     if size < offset + v.length as usize {
         return false;
     }
-    v.prefix == number::read_u32(body, from + offset)
+    v.prefix == u32::read(body, from + offset)
 }
 
 // Whether the view is good over the `count` data buffers whose places stand in `buffers` from number `first` on: start and bytes of each.
@@ -326,13 +201,11 @@ pub fn views_good(
     requires { (at + 16 * n ≤ length body.now) × (2 * (first + count) ≤ length buffers.now) }
     ensures { result ≡ views_good body.now at buffers.now first count n }
 {
-    let mut i = 0;
-    while i < n {
+    for i in 0..n {
         let v = utils::byte_view::from_bytes(body, at + 16 * i);
         if !view_good(body, buffers, first, count, v) {
             return false;
         }
-        i += 1;
     }
     true
 }
@@ -351,8 +224,7 @@ pub fn valid_views_good(
     requires { (at + 16 * n ≤ length body.now) × (2 * (first + count) ≤ length buffers.now) × (8 * from + a + n ≤ 8 * length body.now) × (a + n < 2 ^ 64) }
     ensures { result ≡ valid_views_good body.now at buffers.now first count from a n }
 {
-    let mut i = 0;
-    while i < n {
+    for i in 0..n {
         let bit = bits::get_bit(body, from, a + i);
         if bit == 1 {
             let view = utils::byte_view::from_bytes(body, at + 16 * i);
@@ -360,7 +232,6 @@ pub fn valid_views_good(
                 return false;
             }
         }
-        i += 1;
     }
     true
 }

@@ -1,12 +1,12 @@
 -- Laws of the row tests: one more row passed, a row that fails. Assumes nothing.
-use Rattle.std.proofs.Common.{◌≡◌, ℕ, zero, suc, ◌+◌, ◌*◌, ◌^◌, ◌<◌, ◌≤◌, Bool, true, false, ◌&&◌, eqb, ltb, List, length, get_or, drop, sym, refl, ap, ◌∙◌, subst, lt_of_lt_of_le, one-mul, add-one, arith, get_or-drop, drop-cons, ltb-false, ltb-true, le-ltb, lt-ltb, eq-eqb, ne_eqb}
+use Rattle.std.proofs.Common.{◌≡◌, ℕ, zero, suc, ◌+◌, ◌*◌, ◌^◌, ◌<◌, ◌≤◌, Bool, true, false, ◌&&◌, List, length, get_or, drop, sym, refl, ◌∙◌, subst, lt_of_lt_of_le, add-one, get_or-drop, drop-cons, le-ltb, lt-ltb, eq-eqb, ne_eqb}
 use lib.Seq.{drop-length}
 use Rattle.columnar.specs.Test.{every, only_if}
 use Rattle.columnar.proofs.Test.{every_false}
-use Rattle.number.specs.Number.{number, entry}
+use Rattle.number.specs.Number.{entry}
 use Rattle.number.proofs.Laws.{number_lt}
 use Rattle.bits.specs.Bits.{bits}
-use Rattle.row_rules.specs.slots.Slots.{field_of, valid_at, keys_below, valid_keys_below}
+use Rattle.row_rules.specs.slots.Slots.{field_of, keys_below, valid_keys_below}
 
 pub and_true : (b : Bool) → b && true ≡ b
 and_true true = refl
@@ -57,9 +57,6 @@ field_none ids c = rw drop-length
 
 -- ---- keys of w bytes
 
-pub entry_one : (s : List ℕ) (at i : ℕ) → entry 1 s at i ≡ number 1 (drop (at + i) s)
-entry_one s at i = ap (λ (k : ℕ). number 1 (drop (at + k) s)) (one-mul i)
-
 module _ (w : ℕ) (s : List ℕ) (at bound : ℕ) where
   pub keys_pass : (i : ℕ) {g : Bool} → g ≡ keys_below w s at bound i → entry w s at i < bound → g ≡ keys_below w s at bound (i + 1)
   keys_pass i e h = pass _ i e (lt-ltb _ _ h)
@@ -74,43 +71,7 @@ module _ (w : ℕ) (s : List ℕ) (at bound : ℕ) where
   pub keys_spoil : (i : ℕ) → bound ≤ entry w s at i → false ≡ keys_below w s at bound (i + 1)
   keys_spoil i h = spoil _ i (le-ltb _ _ h)
 
-  -- no key is below 0
-  pub keys_none : bound ≡ 0 → (n : ℕ) → eqb n 0 ≡ keys_below w s at bound n
-  keys_none h zero = eq-eqb 0 0 refl
-  keys_none h (suc n) = ne_eqb (suc n) 0 (λ (q : suc n ≡ 0). omega arith) ∙ subst (λ k. false ≡ keys_below w s at bound k) (add-one n) (keys_spoil n (omega arith))
-
-  -- one more key beside the largest so far, which is a
-  module _ (i a v : ℕ) (e : ltb a bound ≡ keys_below w s at bound i) (r : v ≡ entry w s at i) where
-    pub top_key : a < v → ltb v bound ≡ keys_below w s at bound (i + 1)
-    top_key h = go (ltb v bound) refl
-      where
-        go : (b : Bool) → ltb v bound ≡ b → ltb v bound ≡ keys_below w s at bound (i + 1)
-        go true t =
-            let l : v < bound = ltb-true _ _ t in
-            t ∙ keys_pass i (sym (lt-ltb a bound (omega arith)) ∙ e) (omega arith)
-        go false t =
-            let l : bound ≤ v = ltb-false _ _ t in
-            t ∙ keys_spoil i (omega arith)
-
-    pub top_stays : v ≤ a → ltb a bound ≡ keys_below w s at bound (i + 1)
-    top_stays h = go (ltb a bound) refl
-      where
-        go : (b : Bool) → ltb a bound ≡ b → ltb a bound ≡ keys_below w s at bound (i + 1)
-        go true t =
-            let l : a < bound = ltb-true _ _ t in
-            t ∙ keys_pass i (sym t ∙ e) (omega arith)
-        go false t = t ∙ sym (rw add-one (ap (λ (b : Bool). b && ltb (entry w s at i) bound) (sym e ∙ t)))
-
   module _ (from a : ℕ) where
-    -- a key below bound
-    pub valid_keys_pass : (i : ℕ) → true ≡ valid_keys_below w s at bound from a i → entry w s at i < bound → true ≡ valid_keys_below w s at bound from a (i + 1)
-    valid_keys_pass i e h = pass _ i e (any_row (valid_at s from a i) (ltb (entry w s at i) bound) (lt-ltb _ _ h))
-
-    -- a key under a null
-    pub valid_keys_null : (i : ℕ) → true ≡ valid_keys_below w s at bound from a i → (get_or (bits s) (8 * from + (a + i)) 0 ≡ 1 → ⊥)
-        → true ≡ valid_keys_below w s at bound from a (i + 1)
-    valid_keys_null i e h = pass _ i e (null_row_lem _ _ (ne_eqb _ _ h))
-
     -- a valid key that is not below bound
     pub valid_keys_fail : (i n : ℕ) → i < n → get_or (bits s) (8 * from + (a + i)) 0 ≡ 1 → bound ≤ entry w s at i → false ≡ valid_keys_below w s at bound from a n
     valid_keys_fail i n l e h = fail _ i n l (valid_row _ _ _ (eq-eqb _ _ e) (le-ltb _ _ h))

@@ -1,9 +1,8 @@
 -- The tables of 256 entries that the rows of a union are tested by: what they hold, one more id written, and what an entry says of a row.
 -- Assumes nothing.
-use Rattle.std.proofs.Common.{◌≡◌, ℕ, suc, ◌+◌, ◌<◌, ◌≤◌, min, Bool, true, false, cond, not, ◌&&◌, eqb, ltb, List, length, get_or, drop, set, replicate, sym, refl, ap, ◌∙◌, add-zero, zero-add, add-one, arith, length-set, drop-cons, get_or-set_other, get_or-set_same, le-ltb, lt-ltb, eq-eqb, ne_eqb, eqb-true}
+use Rattle.std.proofs.Common.{◌≡◌, ℕ, zero, suc, [], ◌∷◌, take, take_all, ◌||◌, ◌+◌, ◌<◌, ◌≤◌, min, Bool, true, false, cond, ◌&&◌, eqb, ltb, List, length, get_or, drop, set, replicate, sym, refl, ap, ◌∙◌, add-zero, zero-add, add-one, arith, length-set, drop-cons, get_or-set_other, get_or-set_same, le-ltb, lt-ltb, eq-eqb, ne_eqb, eqb-true}
 use lib.ListN.{length-replicate, get_or-replicate}
 use lib.Seq.{drop-length}
-use lib.Bits.{bit_and}
 use borrow.Author.Tests.{eqb-false}
 use Rattle.columnar.specs.Types.{half}
 use Rattle.columnar.specs.Test.{every, member}
@@ -32,6 +31,10 @@ holds_set {t} {f} g d v h l e o =
     go c m true q = let k : c ≡ d = eqb-true c d q in rw k (get_or-set_same t d v 0 (omega (arith, h.size)) ∙ sym e)
     go c m false q = get_or-set_other t d c v 0 (eqb-false c d q) ∙ h.at c m ∙ sym (o c (eqb-false c d q))
 
+or_true : (b : Bool) → b || true ≡ true
+or_true true = refl
+or_true false = refl
+
 module _ (ids : List ℕ) (i : ℕ) (l : i < length ids) where
   member_here : member (get_or ids i 0) (drop i ids) ≡ true
   member_here = rw (drop-cons ids i 0 l, eq-eqb (get_or ids i 0) (get_or ids i 0) refl)
@@ -41,40 +44,29 @@ module _ (ids : List ℕ) (i : ℕ) (l : i < length ids) where
 
 -- ---- declared ids
 
--- 1 where c is one of the ids from number i on
-abbrev pub flag_from : List ℕ → ℕ → ℕ → ℕ
-flag_from ids i c = cond (member c (drop i ids)) 1 0
+-- 1 where c is one of the first i ids
+abbrev pub flag_to : List ℕ → ℕ → ℕ → ℕ
+flag_to ids i c = cond (member c (take i ids)) 1 0
 
-pub flags_none : (ids : List ℕ) → Holds (replicate 256 0) (flag_from ids (length ids))
-flags_none ids = holds_none _ (λ c. rw drop-length)
+member_new : (ids : List ℕ) (i : ℕ) → i < length ids → member (get_or ids i 0) (take (suc i) ids) ≡ true
+member_new [] i l = absurd (omega arith)
+member_new (d ∷ ids) zero l = rw (eq-eqb d d refl)
+member_new (d ∷ ids) (suc i) l = rw (member_new ids i (omega arith)) (or_true (eqb (get_or ids i 0) d))
 
-pub flags_all : (ids : List ℕ) {t : List ℕ} (i : ℕ) → i ≡ 0 → Holds t (flag_from ids i) → (c : ℕ) → c < 256 → get_or t c 0 ≡ cond (member c ids) 1 0
-flags_all ids i e h c m = h.at c m ∙ rw e
+member_old : (ids : List ℕ) (i c : ℕ) → (c ≡ get_or ids i 0 → ⊥) → i < length ids → member c (take (suc i) ids) ≡ member c (take i ids)
+member_old [] i c h l = absurd (omega arith)
+member_old (d ∷ ids) zero c h l = rw (ne_eqb c d h)
+member_old (d ∷ ids) (suc i) c h l = ap (λ b. eqb c d || b) (member_old ids i c h (omega arith))
 
-pub flags_set : (ids : List ℕ) {t : List ℕ} (i j : ℕ) → i ≡ suc j → i ≤ length ids → get_or ids j 0 < 256 → Holds t (flag_from ids i) → Holds (set t (get_or ids j 0) 1) (flag_from ids j)
-flags_set ids {t} i j e l m h =
-    let k : Holds t (flag_from ids (suc j)) = rw e at h in
-    holds_set (flag_from ids j) (get_or ids j 0) 1 k m (rw (member_here ids j (omega arith))) (λ c o. rw (member_later ids j (omega arith) c o))
+pub flags_none : (ids : List ℕ) → Holds (replicate 256 0) (flag_to ids 0)
+flags_none ids = holds_none _ (λ c. refl)
 
--- two flags at once
-both_set : (a b : Bool) → bit_and (cond a 1 0) (cond b 1 0) ≡ cond (a && b) 1 0
-both_set true true = refl
-both_set true false = refl
-both_set false true = refl
-both_set false false = refl
+pub flags_all : (ids : List ℕ) {t : List ℕ} (i : ℕ) → length ids ≤ i → Holds t (flag_to ids i) → (c : ℕ) → c < 256 → get_or t c 0 ≡ cond (member c ids) 1 0
+flags_all ids i l h c m = h.at c m ∙ rw (take_all i ids l)
 
-set_is : (b : Bool) → not (eqb (cond b 1 0) 0) ≡ b
-set_is true = refl
-set_is false = refl
-
-module _ (s : List ℕ) (at : ℕ) (ids : List ℕ) where
-  -- one id more
-  pub ids_more : (t : List ℕ) → ((c : ℕ) → c < 256 → get_or t c 0 ≡ cond (member c ids) 1 0) → (i all : ℕ) → get_or s (at + i) 0 < 256
-      → all ≡ cond (ids_declared s at ids i) 1 0 → bit_and all (get_or t (get_or s (at + i) 0) 0) ≡ cond (ids_declared s at ids (i + 1)) 1 0
-  ids_more t h i all m e = rw (e, h (get_or s (at + i) 0) m, add-one) (both_set (ids_declared s at ids i) (member (get_or s (at + i) 0) ids))
-
-  pub ids_are : (n i all : ℕ) → i ≡ n → all ≡ cond (ids_declared s at ids i) 1 0 → not (eqb all 0) ≡ ids_declared s at ids n
-  ids_are n i all q e = rw (e, q) (set_is (ids_declared s at ids n))
+pub flags_set : (ids : List ℕ) {t : List ℕ} (i : ℕ) → i < length ids → get_or ids i 0 < 256 → Holds t (flag_to ids i) → Holds (set t (get_or ids i 0) 1) (flag_to ids (i + 1))
+flags_set ids {t} i l m h =
+    rw add-one (holds_set (flag_to ids (suc i)) (get_or ids i 0) 1 h m (rw (member_new ids i l)) (λ c o. rw (member_old ids i c o l)))
 
 -- ---- positions
 

@@ -1,12 +1,12 @@
 -- Laws of the test of one view, and of a run of views. Assumes nothing.
-use Rattle.std.proofs.Common.{◌≡◌, ℕ, ◌+◌, ◌*◌, ◌<◌, ◌≤◌, Bool, true, false, eqb, List, length, get_or, drop, sym, ap, ◌∙◌, arith, le-ltb, lt-ltb, eq-eqb, ne_eqb, le-leb}
+use Rattle.std.proofs.Common.{◌≡◌, ℕ, ◌+◌, ◌*◌, ◌<◌, ◌≤◌, Bool, true, false, eqb, List, length, get_or, drop, sym, ap, ◌∙◌, arith, le-ltb, lt-ltb, eq-eqb, le-leb}
 use borrow.Author.Tests.{lt-leb}
 use Rattle.number.specs.Number.{number}
 use Rattle.bits.specs.Bits.{bits}
 use Rattle.utils.specs.declared.byte_view.ByteView.{ByteView}
 use Rattle.utils.specs.byte_view.View.{view_at}
 use Rattle.row_rules.specs.slots.Slots.{lies_in, start_at, bytes_at, view_good, views_good, valid_views_good}
-use Rattle.row_rules.proofs.slots.Laws.{pass, fail, null_row_lem, valid_row}
+use Rattle.row_rules.proofs.slots.Laws.{fail, valid_row}
 
 module _ (s : List ℕ) (start bytes : ℕ) (v : ByteView) where
   -- the data buffer runs past the body
@@ -42,25 +42,11 @@ module _ (s : List ℕ) (at : ℕ) (t : List ℕ) (first count : ℕ) where
       → view_good s t first count (view_at s (at + 16 * i)) ≡ x
   said i e h x = sym (ap (view_good s t first count) e) ∙ sym h ∙ x
 
-  pub views_pass : (i : ℕ) {v : ByteView} {r : Bool} → true ≡ views_good s at t first count i → v ≡ view_at s (at + 16 * i) → r ≡ view_good s t first count v
-      → r ≡ true → true ≡ views_good s at t first count (i + 1)
-  views_pass i g e h x = pass _ i g (said i e h x)
-
   pub views_fail : (i n : ℕ) {v : ByteView} {r : Bool} → i < n → v ≡ view_at s (at + 16 * i) → r ≡ view_good s t first count v → r ≡ false
       → false ≡ views_good s at t first count n
   views_fail i n l e h x = fail _ i n l (said i e h x)
 
   module _ (from a : ℕ) where
-    -- a view under a null
-    pub valid_views_null : (i : ℕ) → true ≡ valid_views_good s at t first count from a i → (get_or (bits s) (8 * from + (a + i)) 0 ≡ 1 → ⊥)
-        → true ≡ valid_views_good s at t first count from a (i + 1)
-    valid_views_null i g h = pass _ i g (null_row_lem _ _ (ne_eqb _ _ h))
-
-    pub valid_views_pass : (i : ℕ) {v : ByteView} {r : Bool} → true ≡ valid_views_good s at t first count from a i
-        → get_or (bits s) (8 * from + (a + i)) 0 ≡ 1 → v ≡ view_at s (at + 16 * i) → r ≡ view_good s t first count v → r ≡ true
-        → true ≡ valid_views_good s at t first count from a (i + 1)
-    valid_views_pass i g b e h x = pass _ i g (valid_row _ _ _ (eq-eqb _ _ b) (said i e h x))
-
     pub valid_views_fail : (i n : ℕ) {v : ByteView} {r : Bool} → i < n → get_or (bits s) (8 * from + (a + i)) 0 ≡ 1
         → v ≡ view_at s (at + 16 * i) → r ≡ view_good s t first count v → r ≡ false → false ≡ valid_views_good s at t first count from a n
     valid_views_fail i n l b e h x = fail _ i n l (valid_row _ _ _ (eq-eqb _ _ b) (said i e h x))

@@ -1,4 +1,4 @@
--- `slot_rules::view_good` meets its contract. Assumes nothing.
+-- `slots::view_good` meets its contract. Assumes nothing.
 use Rattle.std.proofs.Common.{arith}
 use Rattle.row_rules.proofs.slots.Views.{view_negative, view_inline, view_unknown, view_lies}
 use Rattle.row_rules.proofs.slots.view_good.Goals as goal
