@@ -170,8 +170,7 @@ fn copy_children(
 {
     let last = plan_words::end_of(plan, i);
     let mut k = i + 1;
-    let mut t: usize = 0;
-    while t < 32 {
+    for t in 0..32usize {
         if last <= k {
             return 0;
         }
@@ -190,7 +189,6 @@ fn copy_children(
             return g;
         }
         k = next;
-        t += 1;
     }
     0
 }

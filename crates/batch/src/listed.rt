@@ -49,10 +49,8 @@ pub fn is_shuffled(body: &[u8], offsets: u64, sizes: u64, w: u64, slot: u64, n: 
 {
     let last = first_of(n);
     let mut breaks: u64 = 0;
-    let mut r: u64 = 0;
-    while r < last {
+    for r in 0..last {
         breaks += break_at(body, offsets, sizes, w, slot, n, r);
-        r += 1;
     }
     last < 2 * breaks
 }
@@ -76,14 +74,12 @@ fn copy_listed(
     ensures { room.new ≡ splice to (pieces (λ r. take (v * entry w (was body) sizes (slot + r)) (drop (at + v * entry w (was body) offsets (slot + r)) (was body))) n) room.old }
 {
     let mut to = to;
-    let mut r: u64 = 0;
-    while r < n {
+    for r in 0..n {
         let start = lookups::entry_at(body, offsets, w, slot + r);
         let size = v * lookups::entry_at(body, sizes, w, slot + r);
         let from = at + v * start;
         numbers::copy_few(room, to, body, from as usize, size as usize);
         to += size as usize;
-        r += 1;
     }
 }
 

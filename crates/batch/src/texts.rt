@@ -56,14 +56,12 @@ fn rises_by(body: &[u8], from: u64, w: u64, n: u64) -> bool
     ensures { result ≡ never_falls w (was body) from n }
 {
     let mut before = lookups::entry_at(body, from, w, 0);
-    let mut r: u64 = 0;
-    while r < n {
+    for r in 0..n {
         let next = lookups::entry_at(body, from, w, r + 1);
         if next < before {
             return false;
         }
         before = next;
-        r += 1;
     }
     true
 }

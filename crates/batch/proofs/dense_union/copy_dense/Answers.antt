@@ -1,7 +1,6 @@
 -- `dense_union::copy_dense` meets its contract. Assumes nothing.
 use mathlib.Core.Path.{refl}
-use mathlib.Core.Bool.{true}
-use Prim.Native.Nat.{ℕ, ◌-◌}
+use Prim.Native.Nat.{ℕ}
 use native.Mathlib.Omega.{arith}
 use Rattle.array_data.proofs.lent_tables.Laws.{yes}
 use Rattle.leaf_walk.specs.Join.{join}

@@ -2,4 +2,4 @@
 use Rattle.batch.proofs.homes.position_at.Goals as goal
 
 pub returns : goal.returns
-returns c = c.read_u32.ensures
+returns c = c.read.ensures

@@ -1,6 +1,6 @@
 -- `batch::text_rows::list_chars` meets its contract. Assumes nothing.
 use mathlib.Core.Path.{refl, ap, subst, ◌∙◌}
-use Prim.Native.Nat.{◌+◌, ◌-◌, ◌≤◌}
+use Prim.Native.Nat.{◌+◌, ◌≤◌}
 use native.Mathlib.Omega.{arith}
 use lib.ListN.{length}
 use Rattle.number.specs.Number.{entry}
@@ -10,7 +10,7 @@ use Rattle.batch.proofs.batch_walk.TextRows.{row_in, rows_more, not_top}
 use Rattle.batch.proofs.text_rows.list_chars.Goals as goal
 
 pub loop-r-init : goal.loop-r-init
-loop-r-init c = let a = c.args in (omega arith, λ q h. absurd (omega arith), grown_none (λ q. chars_of a.v a.body.now a.at (a.offset + entry a.w a.body.now a.offsets (a.slot + q)) (entry a.w a.body.now a.sizes (a.slot + q))) 0 (omega arith))
+loop-r-init c = let a = c.args in (λ q h. absurd (omega arith), grown_none (λ q. chars_of a.v a.body.now a.at (a.offset + entry a.w a.body.now a.offsets (a.slot + q)) (entry a.w a.body.now a.sizes (a.slot + q))) 0 (omega arith))
 
 pub overflow_add-slot : goal.overflow_add-slot
 overflow_add-slot c = omega (arith, c.requires.n_in_bounds.2)
@@ -33,14 +33,8 @@ chars_of-d-requires c = let a = c.args in let h : c.entry_at-a.result + c.entry_
 pub returns-then-d : goal.returns-then-d
 returns-then-d c = λ ne. absurd (ne refl)
 
-pub overflow_add-r : goal.overflow_add-r
-overflow_add-r c = omega (arith, c.requires.n_in_bounds.2)
-
-pub loop-r-smaller : goal.loop-r-smaller
-loop-r-smaller c = omega arith
-
 pub loop-r-preserved : goal.loop-r-preserved
-loop-r-preserved c = let a = c.args in let l = c.loop-r in let ens = c.chars_of-d.ensures c.if-d.false in let e1 = c.entry_at-a.ensures in let e2 = c.entry_at-m.ensures in (omega arith, rows_more (λ q. Rising a.v a.body.now a.at a.most (a.offset + entry a.w a.body.now a.offsets (a.slot + q)) (entry a.w a.body.now a.sizes (a.slot + q))) l.r l.invariant.1 (subst (λ z. Rising a.v a.body.now a.at a.most (a.offset + z) (entry a.w a.body.now a.sizes (a.slot + l.r))) e1 (subst (λ z. Rising a.v a.body.now a.at a.most (a.offset + c.entry_at-a.result) z) e2 ens.0)), grown_more (λ q. chars_of a.v a.body.now a.at (a.offset + entry a.w a.body.now a.offsets (a.slot + q)) (entry a.w a.body.now a.sizes (a.slot + q))) 0 l.r l.invariant.2 (ens.1 ∙ ap (λ z. chars_of a.v a.body.now a.at (a.offset + z) c.entry_at-m.result) e1 ∙ ap (λ z. chars_of a.v a.body.now a.at (a.offset + entry a.w a.body.now a.offsets (a.slot + l.r)) z) e2) c.grow-sum.ensures)
+loop-r-preserved c = let a = c.args in let l = c.loop-r in let ens = c.chars_of-d.ensures c.if-d.false in let e1 = c.entry_at-a.ensures in let e2 = c.entry_at-m.ensures in (rows_more (λ q. Rising a.v a.body.now a.at a.most (a.offset + entry a.w a.body.now a.offsets (a.slot + q)) (entry a.w a.body.now a.sizes (a.slot + q))) l.r l.invariant.0 (subst (λ z. Rising a.v a.body.now a.at a.most (a.offset + z) (entry a.w a.body.now a.sizes (a.slot + l.r))) e1 (subst (λ z. Rising a.v a.body.now a.at a.most (a.offset + c.entry_at-a.result) z) e2 ens.0)), grown_more (λ q. chars_of a.v a.body.now a.at (a.offset + entry a.w a.body.now a.offsets (a.slot + q)) (entry a.w a.body.now a.sizes (a.slot + q))) 0 l.r l.invariant.1 (ens.1 ∙ ap (λ z. chars_of a.v a.body.now a.at (a.offset + z) c.entry_at-m.result) e1 ∙ ap (λ z. chars_of a.v a.body.now a.at (a.offset + entry a.w a.body.now a.offsets (a.slot + l.r)) z) e2) c.grow-sum.ensures)
 
 pub returns : goal.returns
-returns c = let a = c.args in let l = c.loop-r in λ ne. (λ q h. l.invariant.1 q (omega arith), not_top (λ q. chars_of a.v a.body.now a.at (a.offset + entry a.w a.body.now a.offsets (a.slot + q)) (entry a.w a.body.now a.sizes (a.slot + q))) l.r a.n l.invariant.2 (omega arith) ne)
+returns c = let a = c.args in let l = c.loop-r in λ ne. (λ q h. l.invariant.0 q (omega arith), not_top (λ q. chars_of a.v a.body.now a.at (a.offset + entry a.w a.body.now a.offsets (a.slot + q)) (entry a.w a.body.now a.sizes (a.slot + q))) l.r a.n l.invariant.1 (omega arith) ne)
