@@ -84,13 +84,6 @@ fn copy_taken(
     }
 }
 
-// The array, whose length is known of what a call returns.
-pub fn known(counters: [u64; plan_words::COUNTERS]) -> [u64; plan_words::COUNTERS]
-    ensures { result ≡ counters }
-{
-    counters
-}
-
 // Writes the rows of child k, `total` of them, which reach to `end`, where they stand in the body and the room has them; else false.
 pub fn put_taken(
     plan: &[u64],
@@ -121,8 +114,7 @@ pub fn put_taken(
     if !numbers::reaches(lengths, places, body, first, k, w, end) {
         return false;
     }
-    let counters = known(*counters);
-    let o = plan_words::scale(plan_words::rows_of(&counters, k), w);
+    let o = plan_words::scale(plan_words::rows_of(counters, k), w);
     match plan_words::target(
         plan,
         parts,

@@ -150,18 +150,9 @@ fn furthest_by(body: &[u8], offsets: u64, sizes: u64, w: u64, slot: u64, n: u64)
     for r in 0..n {
         let start = lookups::entry_at(body, offsets, w, slot + r);
         let end = plan_words::grow(start, lookups::entry_at(body, sizes, w, slot + r));
-        most = larger(most, end);
+        most = most.max(end);
     }
     most
-}
-
-pub fn larger(a: u64, b: u64) -> u64
-    ensures { result ≡ cond (ltb a b) b a }
-{
-    if a < b {
-        return b;
-    }
-    a
 }
 
 // The same, each width by itself.

@@ -7,7 +7,7 @@ ghost use Rattle.walk.specs.State.{rows};
 ghost use Rattle.walk.specs.Log.{put, apply_if};
 ghost use Rattle.batch.specs.batch_walk.Fall.{home_by, lands_by, all_land, Fallen};
 
-use crate::{homes, sizes};
+use crate::homes;
 use number::Unsigned;
 use walk::plan_words;
 
@@ -31,10 +31,7 @@ fn begin_of(taken: u64, begin: u64, start: u64) -> u64
 fn still(whole: bool, a: u64, b: u64) -> bool
     ensures { result ≡ cond (eqb a b) whole false }
 {
-    if a == b {
-        return whole;
-    }
-    false
+    a == b && whole
 }
 
 // The rows that fall to each child: where its first stretch begins, how many they are, and how far they reach.
@@ -76,7 +73,7 @@ pub fn survey(
         whole = still(whole, b + t, start);
         begins[k] = b;
         taken[k] = t + 1;
-        ends[k] = sizes::larger(ends[k], start + 1);
+        ends[k] = ends[k].max(start + 1);
     }
     Fall { sound: true, whole }
 }

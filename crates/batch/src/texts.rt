@@ -1,5 +1,5 @@
 // Stretches of byte strings without validity: offsets and bytes. The steps are those of `leaf_walk::variable_size`, whose inlining a second caller would end.
-ghost use Rattle.std.specs.Prelude.{◌≡◌, true, List, [], ◌∷◌, ℕ, ◌+◌, ◌*◌, ◌<◌, ◌≤◌, ◌^◌, min, length, take, drop};
+ghost use Rattle.std.specs.Prelude.{◌≡◌, true, List, [], ◌∷◌, ℕ, ◌+◌, ◌*◌, ◌<◌, ◌≤◌, ◌^◌, length, take, drop};
 ghost use Rattle.clauses.specs.Slices.{was, left};
 ghost use Rattle.utils.specs.Extension.{extended};
 ghost use Rattle.walk.specs.State.{bytes_of, bytes};
@@ -66,16 +66,6 @@ fn rises_by(body: &[u8], from: u64, w: u64, n: u64) -> bool
     true
 }
 
-// The smaller of two numbers.
-fn smaller(n: u64, j: u64) -> u64
-    ensures { result ≡ min n j }
-{
-    if n < j {
-        return n;
-    }
-    j
-}
-
 // The same of at most four offsets, without a loop.
 fn few_rise(body: &[u8], from: u64, w: u64, n: u64) -> bool
     requires n_in_bounds { (from + w * (n + 1) ≤ length body.now) × (n ≤ 3) }
@@ -83,11 +73,11 @@ fn few_rise(body: &[u8], from: u64, w: u64, n: u64) -> bool
     ensures { result ≡ never_falls w (was body) from n }
 {
     let lead = lookups::entry_at(body, from, w, 0);
-    let one = lookups::entry_at(body, from, w, smaller(n, 1));
+    let one = lookups::entry_at(body, from, w, n.min(1));
     if one < lead {
         return false;
     }
-    let two = lookups::entry_at(body, from, w, smaller(n, 2));
+    let two = lookups::entry_at(body, from, w, n.min(2));
     if two < one {
         return false;
     }

@@ -2,7 +2,7 @@
 use mathlib.Core.Path.{◌≡◌, refl, sym, ap, ◌∙◌}
 use mathlib.Core.Bool.{Bool, true, false, cond, ◌&&◌, false≢true}
 use mathlib.Core.List.{List}
-use Prim.Native.Nat.{ℕ, zero, suc, ◌+◌, ◌-◌, ◌≤◌, ◌<◌, min}
+use Prim.Native.Nat.{ℕ, zero, suc, ◌+◌, ◌-◌, ◌≤◌, ◌<◌, min, max}
 use native.Mathlib.Nat.{add-zero, sub-zero}
 use native.Mathlib.Numerals.{add-one}
 use native.Mathlib.Omega.{arith}
@@ -128,7 +128,7 @@ module _ (home : ℕ → ℕ) where
 
     module _ (r : ℕ) (whole : Bool) (begins taken ends : List ℕ) (f : Fallen home pos n r whole begins taken ends) (left : r < n) {j start t b e r2 : ℕ} {whole2 : Bool}
         (is : j ≡ home r) (small : j < 32) (at : start ≡ pos r) (low : start < 4294967296) (had : t ≡ get_or taken j 0) (begin : b ≡ cond (eqb t 0) start (get_or begins j 0))
-        (still : whole2 ≡ cond (eqb (b + t) start) whole false) (reach : e ≡ cond (ltb (get_or ends j 0) (start + 1)) (start + 1) (get_or ends j 0)) (more : r2 ≡ r + 1) where
+        (still : whole2 ≡ cond (eqb (b + t) start) whole false) (reach : e ≡ max (get_or ends j 0) (start + 1)) (more : r2 ≡ r + 1) where
       else_home : (k : ℕ) → eqb j k ≡ false → home r ≡ k → ⊥
       else_home k q z = eqb-false j k q (is ∙ z)
 
@@ -152,7 +152,7 @@ module _ (home : ℕ → ℕ) where
           rw (← z, more) (set_here ends e f.long.2 ∙ furthest_more (λ q. takes_from home pos j q + takes_of home j q) r (f.furthest j small) y reach)
       reach_go k h false q =
           let y : 0 ≡ min (takes_from home pos k r + takes_of home k r) top = rw (from_else pos k r (else_home k q), takes_else k r (else_home k q)) (omega arith) in
-          let o : get_or ends k 0 ≡ cond (ltb (get_or ends k 0) 0) 0 (get_or ends k 0) = rw (le-ltb (get_or ends k 0) 0 (omega arith)) refl in
+          let o : get_or ends k 0 ≡ max (get_or ends k 0) 0 = omega arith in
           rw more (set_else ends e k q ∙ furthest_more (λ q. takes_from home pos k q + takes_of home k q) r (f.furthest k h) y o)
 
       begin_low : b < 4294967296

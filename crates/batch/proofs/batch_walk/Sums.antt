@@ -2,7 +2,7 @@
 use mathlib.Core.Path.{◌≡◌, refl, ap, subst, ◌∙◌}
 use mathlib.Core.Bool.{Bool, true, false, cond}
 use mathlib.Core.List.{List}
-use Prim.Native.Nat.{ℕ, zero, suc, ◌+◌, ◌*◌, ◌-◌, ◌≤◌, ◌<◌, min}
+use Prim.Native.Nat.{ℕ, zero, suc, ◌+◌, ◌*◌, ◌-◌, ◌≤◌, ◌<◌, min, max}
 use native.Mathlib.Nat.{mul-le-mul_left}
 use native.Mathlib.Numerals.{add-one}
 use native.Mathlib.Omega.{arith}
@@ -53,9 +53,17 @@ pub furthest_none : (f : ℕ → ℕ) → 0 ≡ furthest_of f 0
 unfolding furthest_of
 furthest_none f = refl
 
-pub furthest_more : (f : ℕ → ℕ) (r : ℕ) {e s t : ℕ} → s ≡ furthest_of f r → e ≡ min (f r) top → t ≡ cond (ltb s e) e s → t ≡ furthest_of f (r + 1)
+-- the larger of two numbers
+pub larger_is : (s e : ℕ) {t : ℕ} → t ≡ max s e → t ≡ cond (ltb s e) e s
+larger_is s e {t} g = go (ltb s e) refl
+  where
+    go : (u : Bool) → ltb s e ≡ u → t ≡ cond u e s
+    go true q = let l = ltb-true s e q in omega arith
+    go false q = let l = ltb-false s e q in omega arith
+
+pub furthest_more : (f : ℕ → ℕ) (r : ℕ) {e s t : ℕ} → s ≡ furthest_of f r → e ≡ min (f r) top → t ≡ max s e → t ≡ furthest_of f (r + 1)
 unfolding furthest_of
-furthest_more f r p q g = rw (add-one r) (rw (p, q) at g)
+furthest_more f r {e} {s} p q g = let h = larger_is s e g in rw (add-one r) (rw (p, q) at h)
 
 -- the end of the rows that an offset and a size name
 pub end_is : {e s z v u : ℕ} → e ≡ grown s z → s ≡ v → z ≡ u → e ≡ min (v + u) top

@@ -26,7 +26,7 @@ pub loop-r-preserved : goal.loop-r-preserved
 loop-r-preserved c =
     let a = c.args in
     let l = c.loop-r in
-    furthest_more (λ q. entry a.w a.body.now a.offsets (a.slot + q) + entry a.w a.body.now a.sizes (a.slot + q)) l.r l.invariant (end_is c.grow-end.ensures c.entry_at-start.ensures c.entry_at.ensures) c.larger-most.ensures
+    furthest_more (λ q. entry a.w a.body.now a.offsets (a.slot + q) + entry a.w a.body.now a.sizes (a.slot + q)) l.r l.invariant (end_is c.grow-end.ensures c.entry_at-start.ensures c.entry_at.ensures) c.max-most.ensures
 
 pub returns : goal.returns
 returns c = let e : c.loop-r.r ≡ c.args.n = omega arith in rw e at c.loop-r.invariant

@@ -76,7 +76,7 @@ loop-r-preserved c =
     let few = c.if-k-ge32.false in
     let t = l.invariant.1.counted c.home_at-k.result (omega arith) in (
       land_more h a.counters.now l.r l.invariant.0 (subst (λ v. v < 32) c.home_at-k.ensures (omega arith)) (land_fits h a.counters.now l.r c.home_at-k.ensures t c.rows_of.ensures c.grow.ensures c.if-grow-ge2147483648.false),
-      fall_more h p a.n l.r l.whole l.begins l.taken l.ends l.invariant.1 (omega arith) c.home_at-k.ensures (omega arith) c.position_at-start.ensures (omega arith) refl c.begin_of-b.ensures c.still-whole.ensures c.larger.ensures refl,
+      fall_more h p a.n l.r l.whole l.begins l.taken l.ends l.invariant.1 (omega arith) c.home_at-k.ensures (omega arith) c.position_at-start.ensures (omega arith) refl c.begin_of-b.ensures c.still-whole.ensures c.max.ensures refl,
     )
 
 pub returns : goal.returns
