@@ -50,8 +50,8 @@ returns-then-put_taken c =
     let a = c.args in
     λ source. rw c.add_rows-then-put_taken.ensures (c.put_taken.ensures.did c.if-put_taken.true source)
 
-pub copy_stretches-requires : goal.copy_stretches-requires
-copy_stretches-requires c = record { first_bound = (c.requires.first_bound.0, c.requires.first_bound.1, flat_rest c.args.plan.now c.args.k c.requires.first_bound.2 c.is_text.ensures c.if-is_text.false); n_in_bounds = c.requires.n_in_bounds }
+pub copy_each-requires-clause-first_bound : goal.copy_each-requires-clause-first_bound
+copy_each-requires-clause-first_bound c = (c.requires.first_bound.0, c.requires.first_bound.1, flat_rest c.args.plan.now c.args.k c.requires.first_bound.2 c.is_text.ensures c.if-is_text.false)
 
 pub returns : goal.returns
-returns c = rw (c.put_taken.ensures.room_value c.if-put_taken.false) at c.copy_stretches.ensures
+returns c = rw (c.put_taken.ensures.room_value c.if-put_taken.false) at c.copy_each.ensures

@@ -52,8 +52,8 @@ returns-then-put_listed c =
     let a = c.args in
     λ source. rw (c.add_rows-then-put_listed.ensures, add-one a.i) (rw (c.place-offsets.ensures, c.place-sizes.ensures, add-one a.i) at (c.put_listed.ensures.did c.if-put_listed.true source))
 
-pub copy_number_stretches-requires : goal.copy_number_stretches-requires
-copy_number_stretches-requires c = record { first_bound = c.requires.first_bound; n_in_bounds = c.requires.n_in_bounds; n_bound = c.requires.fact.0; w_value = c.requires.w_value }
+pub copy_each-requires : goal.copy_each-requires
+copy_each-requires c = record { first_bound = c.requires.first_bound; n_in_bounds = c.requires.n_in_bounds; n_bound = c.requires.fact.0; w_value = c.requires.w_value }
 
 pub returns : goal.returns
-returns c = rw (c.put_listed.ensures.room_value c.if-put_listed.false) at c.copy_number_stretches.ensures
+returns c = rw (c.put_listed.ensures.room_value c.if-put_listed.false) at c.copy_each.ensures
