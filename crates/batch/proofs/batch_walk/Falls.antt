@@ -252,11 +252,6 @@ module _ (home : ℕ → ℕ) (c : List ℕ) where
             let o = takes_else home k r (λ z. eqb-false j k q (is ∙ z)) in
             rw more (get_or-set_other lands j k (v + 1) 0 (λ z. eqb-false j k q (sym z)) ∙ f.1 k h ∙ (let w : rows c k + sum_of (takes_of home k) r ≡ rows c k + sum_of (takes_of home k) (r + 1) = omega arith in w))
 
--- the row of a child that ends its stretch
-pub cut_here : (home pos : ℕ → ℕ) (k r a m : ℕ) {s d : ℕ} → k ≡ home r → s ≡ pos r → d ≡ side_of a m s 1 → d ≡ 3 → side_of a m (takes_from home pos k r) (takes_of home k r) ≡ 3
-cut_here home pos k r a m {s} {d} e f g h =
-    ap (λ v. side_of a m v (takes_of home k r)) (from_here home pos k r e) ∙ ap (λ v. side_of a m (pos r) v) (takes_here home k r e) ∙ ap (λ v. side_of a m v 1) (sym f) ∙ sym g ∙ h
-
 -- a row is one of a child, or none
 pub size_most : (b : Bool) {s : ℕ} → s ≡ cond b 1 0 → s ≤ 1
 size_most true e = omega arith

@@ -3,14 +3,5 @@ use native.Mathlib.Omega.{arith}
 use Rattle.batch.proofs.batch_walk.Node.{below_none, below_more, below_no, below_all}
 use Rattle.batch.proofs.batch_walk.flat_below.Goals as goal
 
-pub loop-k-init : goal.loop-k-init
-loop-k-init c = below_none c.args.plan.now
-
 pub returns-then-not-is_flat : goal.returns-then-not-is_flat
 returns-then-not-is_flat c = below_no c.args.plan.now c.loop-k.k c.loop-k.auto.k c.end_of-end.ensures.value (omega arith) c.is_flat.ensures c.if-not-is_flat.true-raw
-
-pub loop-k-preserved : goal.loop-k-preserved
-loop-k-preserved c = below_more c.args.plan.now c.loop-k.k c.loop-k.auto.k c.loop-k.invariant c.is_flat.ensures c.if-not-is_flat.false-raw
-
-pub returns : goal.returns
-returns c = below_all c.args.plan.now c.loop-k.k c.loop-k.auto.k c.loop-k.invariant c.end_of-end.ensures.value (omega arith)

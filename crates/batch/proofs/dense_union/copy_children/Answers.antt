@@ -12,9 +12,6 @@ use Rattle.batch.proofs.batch_walk.Falls.{stretch_whole}
 use Rattle.batch.proofs.batch_walk.Fields.{child_same, homes_same, positions_same, fields_none, fields_end, fields_turned, fields_bare, fields_stop, fields_more}
 use Rattle.batch.proofs.dense_union.copy_children.Goals as goal
 
-pub overflow_add-k : goal.overflow_add-k
-overflow_add-k c = omega arith
-
 pub loop-t-init : goal.loop-t-init
 loop-t-init c =
     let a = c.args in
@@ -39,15 +36,6 @@ returns-then-not-is_owned c =
     let l = c.loop-t in
     let y : 32 - l.t ≡ suc (32 - (l.t + 1)) = omega arith in
     λ source. l.invariant.1 source 12 l.counters l.room (fields_bare (join a.plan.now a.parts.now a.lengths.now a.places.now a.body.now a.first source) a.i a.slot a.n a.write l.counters l.room c.end_of-last.result (32 - l.t) l.k y c.if-last-k.false c.end_of-next.ensures.value c.if-next-k.false c.is_owned.ensures c.if-not-is_owned.true-raw)
-
-pub offset_bounds-begins-k : goal.offset_bounds-begins-k
-offset_bounds-begins-k c = omega arith
-
-pub offset_bounds-taken-k : goal.offset_bounds-taken-k
-offset_bounds-taken-k c = omega arith
-
-pub offset_bounds-ends-k : goal.offset_bounds-ends-k
-offset_bounds-ends-k c = omega arith
 
 pub copy_child-g-requires : goal.copy_child-g-requires
 copy_child-g-requires c =

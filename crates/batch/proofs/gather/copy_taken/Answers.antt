@@ -12,13 +12,6 @@ use Rattle.batch.specs.batch_walk.Fall.{home_by, takes_of, takes_from}
 use Rattle.batch.proofs.batch_walk.Gathered.{taken_room, taken_sum, taken_step}
 use Rattle.batch.proofs.gather.copy_taken.Goals as goal
 
-pub loop-r-init : goal.loop-r-init
-unfolding sum_of
-loop-r-init c = (omega (arith, mul-zero c.args.w), sym (pieces_none _ _ _))
-
-pub overflow_add-slot : goal.overflow_add-slot
-overflow_add-slot c = omega arith
-
 pub copy_row-to-requires : goal.copy_row-to-requires
 copy_row-to-requires c =
     let a = c.args in
@@ -48,5 +41,6 @@ loop-r-preserved c =
           ∙ taken_step a.w (takes_from h p a.k) (takes_of h a.k) a.body.now a.at a.n c.requires.n_in_bounds_2.1 l.r a.to a.room.now (omega arith) c.requires.n_in_bounds_2.0,
     )
 
-pub returns : goal.returns
-returns c = let e : c.loop-r.r ≡ c.args.n = omega arith in rw e at c.loop-r.invariant.1
+pub loop-r-init : goal.loop-r-init
+unfolding sum_of
+loop-r-init c = (omega (arith, mul-zero c.args.w), sym (pieces_none _ _ _))

@@ -13,21 +13,6 @@ use Rattle.batch.proofs.batch_walk.Loops.{advance_step}
 use Rattle.batch.proofs.batch_walk.Falls.{size_most}
 use Rattle.batch.proofs.homes.advance.Goals as goal
 
-pub loop-r-init : goal.loop-r-init
-loop-r-init c = (omega arith, λ walk c. refl)
-
-pub overflow_add-slot : goal.overflow_add-slot
-overflow_add-slot c = omega arith
-
-pub start_at-start-requires : goal.start_at-start-requires
-start_at-start-requires c = (omega arith, entry_in_lem c.args.positions 4 c.args.slot c.args.n c.loop-r.r (length c.args.body.now) c.requires.1 (omega arith))
-
-pub overflow_add-slot-in-loop-r : goal.overflow_add-slot-in-loop-r
-overflow_add-slot-in-loop-r c = omega arith
-
-pub size_at-size-requires : goal.size_at-size-requires
-size_at-size-requires c = omega arith
-
 pub returns-then-side-eq3 : goal.returns-then-side-eq3
 returns-then-side-eq3 c =
     let a = c.args in

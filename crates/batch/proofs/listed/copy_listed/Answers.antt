@@ -12,22 +12,6 @@ use Rattle.batch.proofs.batch_walk.Sums.{entry_in_lem}
 use Rattle.batch.proofs.batch_walk.Gathered.{taken_room, taken_sum, taken_step}
 use Rattle.batch.proofs.listed.copy_listed.Goals as goal
 
-pub loop-r-init : goal.loop-r-init
-unfolding sum_of
-loop-r-init c = (omega (arith, mul-zero c.args.v), sym (pieces_none _ _ _))
-
-pub overflow_add-slot : goal.overflow_add-slot
-overflow_add-slot c = omega arith
-
-pub entry_at-start-requires : goal.entry_at-start-requires
-entry_at-start-requires c = let a = c.args in record { w_value = c.requires.w_value; k_in_bounds = entry_in_lem a.offsets a.w a.slot a.n c.loop-r.r (length a.body.now) c.requires.n_in_bounds.0 (omega arith) }
-
-pub overflow_add-slot-in-loop-r : goal.overflow_add-slot-in-loop-r
-overflow_add-slot-in-loop-r c = omega arith
-
-pub entry_at-requires : goal.entry_at-requires
-entry_at-requires c = let a = c.args in record { w_value = c.requires.w_value; k_in_bounds = entry_in_lem a.sizes a.w a.slot a.n c.loop-r.r (length a.body.now) c.requires.n_in_bounds.1 (omega arith) }
-
 pub overflow_mul-size : goal.overflow_mul-size
 overflow_mul-size c =
     let a = c.args in
@@ -83,5 +67,6 @@ loop-r-preserved c =
           ∙ taken_step a.v s z a.body.now a.at a.n c.requires.n_in_bounds_2.1 l.r a.to a.room.now (omega arith) c.requires.n_in_bounds_2.0,
     )
 
-pub returns : goal.returns
-returns c = let e : c.loop-r.r ≡ c.args.n = omega arith in rw e at c.loop-r.invariant.1
+pub loop-r-init : goal.loop-r-init
+unfolding sum_of
+loop-r-init c = (omega (arith, mul-zero c.args.v), sym (pieces_none _ _ _))

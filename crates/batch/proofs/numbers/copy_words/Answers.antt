@@ -9,14 +9,11 @@ use Rattle.number.proofs.Laws.{splice_nil}
 use Rattle.batch.proofs.batch_walk.Sums.{words_step}
 use Rattle.batch.proofs.numbers.copy_words.Goals as goal
 
-pub loop-q-init : goal.loop-q-init
-loop-q-init c = sym (splice_nil _ _)
-
 pub loop-q-preserved : goal.loop-q-preserved
 loop-q-preserved c =
     let a = c.args in
     let l = c.loop-q in
     c.copy_number.ensures ∙ ap (λ (z : List ℕ). splice (a.at + 4 * l.q) (take 4 (drop (a.from + 4 * l.q) a.body.now)) z) l.invariant ∙ words_step a.room.now a.body.now a.at a.from l.q a.m c.requires.0 c.requires.1 (omega arith)
 
-pub returns : goal.returns
-returns c = let e : c.loop-q.q ≡ c.args.m = omega arith in rw e at c.loop-q.invariant
+pub loop-q-init : goal.loop-q-init
+loop-q-init c = sym (splice_nil _ _)

@@ -9,18 +9,6 @@ use Rattle.batch.specs.batch_walk.Ends.{end_from}
 use Rattle.batch.proofs.batch_walk.Rises.{from_step, from_end}
 use Rattle.batch.proofs.rise.parts_rise.Goals as goal
 
-pub loop-i-init : goal.loop-i-init
-loop-i-init c = let a = c.args in ap (λ v. end_from a.plan.now a.parts.now v 0 0) (sub-zero c.node_count-n.result)
-
-pub end_behind-validity-requires : goal.end_behind-validity-requires
-end_behind-validity-requires c = omega (arith, c.node_count-n.ensures.upper_bound)
-
-pub end_behind-first-requires : goal.end_behind-first-requires
-end_behind-first-requires c = omega (arith, c.node_count-n.ensures.upper_bound)
-
-pub end_behind-end-requires : goal.end_behind-end-requires
-end_behind-end-requires c = omega (arith, c.node_count-n.ensures.upper_bound)
-
 pub loop-i-preserved : goal.loop-i-preserved
 loop-i-preserved c =
     let a = c.args in

@@ -11,24 +11,6 @@ use Rattle.batch.proofs.batch_walk.Sums.{entry_in_lem, sum_more, sum_below}
 use Rattle.batch.proofs.batch_walk.Loops.{advance_step}
 use Rattle.batch.proofs.side.advance.Goals as goal
 
-pub loop-r-init : goal.loop-r-init
-loop-r-init c = (c.requires.m_bound.0, λ walk c. refl)
-
-pub overflow_add-slot : goal.overflow_add-slot
-overflow_add-slot c = omega arith
-
-pub entry_at-start-requires : goal.entry_at-start-requires
-entry_at-start-requires c = let a = c.args in record { w_value = c.requires.w_value; k_in_bounds = entry_in_lem a.offsets a.w a.slot a.n c.loop-r.r (length a.body.now) c.requires.n_in_bounds.0 (omega arith) }
-
-pub overflow_add-slot-in-loop-r : goal.overflow_add-slot-in-loop-r
-overflow_add-slot-in-loop-r c = omega arith
-
-pub entry_at-size-requires : goal.entry_at-size-requires
-entry_at-size-requires c = let a = c.args in record { w_value = c.requires.w_value; k_in_bounds = entry_in_lem a.sizes a.w a.slot a.n c.loop-r.r (length a.body.now) c.requires.n_in_bounds.1 (omega arith) }
-
-pub returns-then-side-eq3 : goal.returns-then-side-eq3
-returns-then-side-eq3 c = record { by_index = c.loop-r.invariant.1; next_le_n = (omega arith, omega arith); next_value = λ h. sym (rw (c.entry_at-start.ensures, c.entry_at-size.ensures) at c.side_of-side.ensures) ∙ c.if-side-eq3.true }
-
 pub next_size-k-requires : goal.next_size-k-requires
 next_size-k-requires c =
     let a = c.args in

@@ -10,6 +10,3 @@ pub returns-then-w-eq4 : goal.returns-then-w-eq4
 returns-then-w-eq4 c =
     let a = c.args in
     rw c.if-w-eq4.true (c.write.ensures ∙ ap (λ (z : List ℕ). splice a.at z a.room.now) (ap (λ (v : ℕ). encode 4 v) c.truncate.ensures ∙ encode_mod 4 a.v))
-
-pub returns : goal.returns
-returns c = rw (c.requires.w_value c.if-w-eq4.false) c.write-2.ensures

@@ -10,24 +10,6 @@ use Rattle.batch.specs.Stretch.{sum_of}
 use Rattle.batch.proofs.batch_walk.Sums.{entry_in_lem, step_in, sum_none, sum_more, sum_below}
 use Rattle.batch.proofs.sizes.write_sums_by.Goals as goal
 
-pub loop-r-init : goal.loop-r-init
-loop-r-init c = (sum_none _ _, sym (pieces_none _ _ _))
-
-pub overflow_mul-w : goal.overflow_mul-w
-overflow_mul-w c = let a = c.args in omega (arith, step_in a.to a.w a.n c.loop-r.r (length a.room.now) c.requires.n_in_bounds.0 (omega arith))
-
-pub overflow_add-to : goal.overflow_add-to
-overflow_add-to c = let a = c.args in omega (arith, step_in a.to a.w a.n c.loop-r.r (length a.room.now) c.requires.n_in_bounds.0 (omega arith))
-
-pub write_entry-requires : goal.write_entry-requires
-write_entry-requires c = let a = c.args in record { w_in_bounds = omega (arith, step_in a.to a.w a.n c.loop-r.r (length a.room.now) c.requires.n_in_bounds.0 (omega arith)); w_value = c.requires.w_value }
-
-pub overflow_add-slot : goal.overflow_add-slot
-overflow_add-slot c = omega arith
-
-pub entry_at-sum-requires : goal.entry_at-sum-requires
-entry_at-sum-requires c = let a = c.args in record { w_value = c.requires.w_value; k_in_bounds = entry_in_lem a.at a.w a.slot a.n c.loop-r.r (length a.body.now) c.requires.n_in_bounds.1 (omega arith) }
-
 pub overflow_add-sum : goal.overflow_add-sum
 overflow_add-sum c =
     let a = c.args in
@@ -48,5 +30,5 @@ loop-r-preserved c =
           ∙ numbers_step a.w (λ p. a.rows + sum_of f p) a.room.now a.to l.r (step_in a.to a.w a.n l.r (length a.room.now) c.requires.n_in_bounds.0 (omega arith)),
     )
 
-pub returns : goal.returns
-returns c = let e : c.loop-r.r ≡ c.args.n = omega arith in rw e at c.loop-r.invariant.1
+pub loop-r-init : goal.loop-r-init
+loop-r-init c = (sum_none _ _, sym (pieces_none _ _ _))

@@ -7,13 +7,7 @@ use Rattle.walk.specs.State.{rows}
 use Rattle.batch.proofs.batch_walk.Falls.{below_set}
 use Rattle.batch.proofs.survey.rows_of_all.Goals as goal
 
-pub loop-k-init : goal.loop-k-init
-loop-k-init c = (length-replicate {A = ℕ} 32 0, λ j h. absurd (omega arith))
-
 pub loop-k-preserved : goal.loop-k-preserved
 loop-k-preserved c =
     let l = c.loop-k in
     (length-set l.lands l.k _ ∙ l.invariant.0, below_set (λ j. rows c.args.counters.now j) l.lands l.k (omega (arith, l.invariant.0)) l.invariant.1 c.rows_of.ensures)
-
-pub returns : goal.returns
-returns c = (c.loop-k.invariant.0, λ j h. c.loop-k.invariant.1 j (omega arith))

@@ -14,31 +14,16 @@ loop-r-init c =
     let a = c.args in
     (refl, rw (c.requires.begins_value.0, c.requires.begins_value.1, c.requires.begins_value.2) (fall_none (λ q. home_by a.homes.now a.body.now (a.ids + (a.slot + q))) (λ q. entry 4 a.body.now a.positions (a.slot + q)) a.n))
 
-pub overflow_add-slot : goal.overflow_add-slot
-overflow_add-slot c = omega arith
-
-pub overflow_add-ids : goal.overflow_add-ids
-overflow_add-ids c = omega arith
-
 pub returns-then-k-ge32 : goal.returns-then-k-ge32
 returns-then-k-ge32 c =
     let a = c.args in
     record { sound_value = land_homeless (λ q. home_by a.homes.now a.body.now (a.ids + (a.slot + q))) a.counters.now a.n c.loop-r.r (omega arith) c.home_at-k.ensures c.if-k-ge32.true; fallen = λ z. absurd (false≢true z) }
-
-pub offset_bounds-taken-k : goal.offset_bounds-taken-k
-offset_bounds-taken-k c = omega arith
 
 pub returns-then-grow-ge2147483648 : goal.returns-then-grow-ge2147483648
 returns-then-grow-ge2147483648 c =
     let a = c.args in
     let l = c.loop-r in
     record { sound_value = land_over (λ q. home_by a.homes.now a.body.now (a.ids + (a.slot + q))) a.counters.now a.n l.r (omega arith) c.home_at-k.ensures (l.invariant.1.counted c.home_at-k.result (omega arith)) c.rows_of.ensures c.grow.ensures c.if-grow-ge2147483648.true; fallen = λ z. absurd (false≢true z) }
-
-pub overflow_add-slot-in-loop-r : goal.overflow_add-slot-in-loop-r
-overflow_add-slot-in-loop-r c = omega arith
-
-pub offset_bounds-begins-k : goal.offset_bounds-begins-k
-offset_bounds-begins-k c = omega arith
 
 pub overflow_add-b : goal.overflow_add-b
 overflow_add-b c =
@@ -47,25 +32,10 @@ overflow_add-b c =
     let z = grown_most c.rows_of.result c.grow.ensures c.if-grow-ge2147483648.false in
     omega arith
 
-pub offset_bounds-begins-k-in-loop-r : goal.offset_bounds-begins-k-in-loop-r
-offset_bounds-begins-k-in-loop-r c = omega arith
-
 pub overflow_add-taken : goal.overflow_add-taken
 overflow_add-taken c =
     let z = grown_most c.rows_of.result c.grow.ensures c.if-grow-ge2147483648.false in
     omega arith
-
-pub offset_bounds-taken-k-in-loop-r : goal.offset_bounds-taken-k-in-loop-r
-offset_bounds-taken-k-in-loop-r c = omega arith
-
-pub offset_bounds-ends-k : goal.offset_bounds-ends-k
-offset_bounds-ends-k c = omega arith
-
-pub overflow_add-start : goal.overflow_add-start
-overflow_add-start c = omega arith
-
-pub offset_bounds-ends-k-in-loop-r : goal.offset_bounds-ends-k-in-loop-r
-offset_bounds-ends-k-in-loop-r c = omega arith
 
 pub loop-r-preserved : goal.loop-r-preserved
 loop-r-preserved c =

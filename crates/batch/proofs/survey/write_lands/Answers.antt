@@ -16,12 +16,6 @@ loop-r-init c =
     let a = c.args in
     (landing_none (λ q. home_by a.homes.now a.body.now (a.ids + (a.slot + q))) a.counters.now c.rows_of_all-lands.result c.rows_of_all-lands.ensures, sym (pieces_none _ _ _))
 
-pub overflow_add-slot : goal.overflow_add-slot
-overflow_add-slot c = omega arith
-
-pub overflow_add-ids : goal.overflow_add-ids
-overflow_add-ids c = omega arith
-
 pub offset_bounds-lands-k : goal.offset_bounds-lands-k
 offset_bounds-lands-k c =
     let a = c.args in
@@ -37,12 +31,6 @@ bounds-lands-k c =
     let h : ℕ → ℕ = λ q. home_by a.homes.now a.body.now (a.ids + (a.slot + q)) in
     let m = land_at h a.counters.now a.n l.r c.requires.3 (omega arith) in
     omega (arith, m.0, c.home_at-k.ensures, l.invariant.0.0)
-
-pub overflow_mul-r : goal.overflow_mul-r
-overflow_mul-r c = omega arith
-
-pub overflow_add-to : goal.overflow_add-to
-overflow_add-to c = omega arith
 
 pub overflow_add-lands : goal.overflow_add-lands
 overflow_add-lands c =
@@ -83,6 +71,3 @@ loop-r-preserved c =
           ∙ ap (λ (z : List ℕ). splice (a.to + 4 * l.r) (encode 4 (lands_by h a.counters.now l.r)) z) l.invariant.1
           ∙ numbers_step 4 (lands_by h a.counters.now) a.room.now a.to l.r (omega arith),
     )
-
-pub returns : goal.returns
-returns c = let e : c.loop-r.r ≡ c.args.n = omega arith in rw e at c.loop-r.invariant.1

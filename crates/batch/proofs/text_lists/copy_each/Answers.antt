@@ -25,12 +25,6 @@ loop-r-init g c =
       λ source. begins a.plan.now a.parts.now a.write (λ b k d. batch_leaf (join a.plan.now a.parts.now a.lengths.now a.places.now a.body.now a.first source) (suc a.i) b k d) a.w a.body.now a.slot a.n a.counters.now a.room.now c.place-offsets.ensures c.place-sizes.ensures,
     )
 
-pub advance-t-requires : goal.advance-t-requires
-advance-t-requires g c = record { n_in_bounds = (c.loop-r.invariant.4, c.loop-r.invariant.5, c.requires.first_bound.2, c.loop-r.invariant.0); m_bound = (c.loop-r.invariant.2, c.loop-r.invariant.3); w_value = c.requires.w_value }
-
-pub overflow_add-i-in-loop-r : goal.overflow_add-i-in-loop-r
-overflow_add-i-in-loop-r g c = omega arith
-
 pub copy_stretch-g-requires : goal.copy_stretch-g-requires
 copy_stretch-g-requires g c =
     let a = c.args in
@@ -53,24 +47,6 @@ returns-then-t-n g c =
     let f : ℕ → ℕ = λ q. entry a.w a.body.now c.place-sizes.result (a.slot + q) in
     λ source. loop_zero (λ b k d. batch_leaf (join a.plan.now a.parts.now a.lengths.now a.places.now a.body.now a.first source) (suc a.i) b k d) s f a.n l.r l.a l.m l.counters l.room (l.invariant.6 source) c.advance-t.result.next c.advance-t.result.a c.advance-t.result.m (c.advance-t.ensures.by_index (λ b k d. batch_leaf (join a.plan.now a.parts.now a.lengths.now a.places.now a.body.now a.first source) (suc a.i) b k d) l.counters) c.advance-t.ensures.next_le_n.0 (rw (add-one a.i) at (c.copy_stretch-g.ensures source)) c.if-t-n.true c.if-g-ne0.false
 
-pub overflow_add-slot : goal.overflow_add-slot
-overflow_add-slot g c = omega (arith, c.advance-t.ensures.next_le_n.0, c.requires.first_bound.2)
-
-pub entry_at-a-requires : goal.entry_at-a-requires
-entry_at-a-requires g c = let a = c.args in record { w_value = c.requires.w_value; k_in_bounds = entry_in_lem c.place-offsets.result a.w a.slot a.n c.advance-t.result.next (length a.body.now) c.loop-r.invariant.4 (omega (arith, c.advance-t.ensures.next_le_n.0, c.requires.first_bound.2)) }
-
-pub overflow_add-slot-in-loop-r : goal.overflow_add-slot-in-loop-r
-overflow_add-slot-in-loop-r g c = omega (arith, c.advance-t.ensures.next_le_n.0, c.requires.first_bound.2)
-
-pub entry_at-m-requires : goal.entry_at-m-requires
-entry_at-m-requires g c = let a = c.args in record { w_value = c.requires.w_value; k_in_bounds = entry_in_lem c.place-sizes.result a.w a.slot a.n c.advance-t.result.next (length a.body.now) c.loop-r.invariant.5 (omega (arith, c.advance-t.ensures.next_le_n.0, c.requires.first_bound.2)) }
-
-pub overflow_add-r : goal.overflow_add-r
-overflow_add-r g c = omega (arith, c.advance-t.ensures.next_le_n.0, c.requires.first_bound.2)
-
-pub loop-r-smaller : goal.loop-r-smaller
-loop-r-smaller g c = omega (arith, c.advance-t.ensures.next_le_n, c.requires.first_bound.2)
-
 pub loop-r-preserved : goal.loop-r-preserved
 loop-r-preserved g c =
     let a = c.args in
@@ -86,6 +62,3 @@ loop-r-preserved g c =
       l.invariant.5,
       λ source. loop_more (λ b k d. batch_leaf (join a.plan.now a.parts.now a.lengths.now a.places.now a.body.now a.first source) (suc a.i) b k d) s f a.n l.r l.a l.m l.counters l.room (l.invariant.6 source) c.advance-t.result.next c.advance-t.result.a c.advance-t.result.m (c.advance-t.ensures.by_index (λ b k d. batch_leaf (join a.plan.now a.parts.now a.lengths.now a.places.now a.body.now a.first source) (suc a.i) b k d) l.counters) c.advance-t.ensures.next_le_n.0 (rw (add-one a.i) at (c.copy_stretch-g.ensures source)) c.if-g-ne0.false c.if-t-n.false c.advance-t.ensures.next_value refl c.entry_at-a.ensures c.entry_at-m.ensures,
     )
-
-pub returns : goal.returns
-returns g c = absurd (omega arith)
