@@ -1,19 +1,18 @@
 -- Logs that do the same to every part. Assumes nothing.
-use mathlib.Core.Path.{◌≡◌, refl, sym, ap, subst, ◌∙◌}
+use mathlib.Core.Path.{◌≡◌, refl, sym, ap, ◌∙◌}
 use mathlib.Core.Bool.{Bool, true, false, cond, ◌&&◌}
-use mathlib.Core.List.{List, [], ◌∷◌, ◌++◌, append-nil}
-use Prim.Native.Nat.{ℕ, zero, suc, ◌+◌, ◌*◌, ◌-◌, ◌<◌, ◌≤◌}
-use native.Mathlib.Nat.{add_assoc}
+use mathlib.Core.List.{List, [], ◌∷◌, ◌++◌}
+use Prim.Native.Nat.{ℕ, ◌+◌, ◌*◌, ◌≤◌}
 use native.Mathlib.Omega.{arith}
 use lib.ListN.{length, length-append}
 use lib.Dec.{eqb}
 use borrow.Author.Tests.{eqb-true, ne_eqb}
 use Rattle.number.specs.Number.{splice}
-use Rattle.number.proofs.Laws.{splice_splice, splice_nil, length_splice}
+use Rattle.number.proofs.Laws.{splice_splice, splice_nil}
 use Rattle.bits.specs.Bits.{put_bits}
-use Rattle.bits.proofs.Laws.{Below, below_append}
+use Rattle.bits.proofs.Laws.{Below}
 use Rattle.bits.proofs.Puts.{put_put, put_nil}
-use Rattle.walk.specs.Log.{Entry, put, mask, amend, Log}
+use Rattle.walk.specs.Log.{Entry, put, mask, Log}
 use Rattle.batch.proofs.Stretches.{and_left, and_right}
 use Rattle.batch.proofs.Windows.{is_at, inner, within, within_append, span, Inside, AllInside, inside_append, inner_long, inner_below, at_key, node, buffer}
 

@@ -1,16 +1,16 @@
 -- THEOREM 1: where the walk by stretches answers 0, the walk of a copy answers 0 and leaves the same counters. Assumes nothing.
-use mathlib.Core.Path.{◌≡◌, refl, sym, ap, ◌∙◌}
+use mathlib.Core.Path.{◌≡◌, refl, ◌∙◌}
 use mathlib.Core.Bool.{Bool, true, false, cond}
 use mathlib.Core.List.{List}
-use Prim.Native.Nat.{ℕ, zero, suc, ◌+◌, ◌<◌}
+use Prim.Native.Nat.{ℕ, suc, ◌<◌}
 use native.Mathlib.Omega.{arith}
 use lib.Dec.{ltb, eqb}
 use borrow.Author.Tests.{ltb-true, eqb-true}
 use Rattle.schema.specs.formats.Code.{is_list_view}
 use Rattle.walk.specs.State.{Join, code_of, bytes_of, add_rows, far, slot_of}
-use Rattle.walk.specs.Log.{Out, fail, done, need, found, next}
+use Rattle.walk.specs.Log.{Out, fail, done}
 use Rattle.walk.specs.Leaves.{copy_mask}
-use Rattle.walk.specs.Copy.{Walk, masked, copy_list_view, copy_dense, copy_data, copy_slots, copy_node, copy_walk}
+use Rattle.walk.specs.Copy.{Walk, masked, copy_dense, copy_data, copy_slots, copy_node, copy_walk}
 use Rattle.batch.specs.Dense.{batch_dense}
 use Rattle.batch.specs.Batch.{batch_leaf, batch_list_view, batch_data, batch_slots, batch_node, batch_below, batch_walk_of}
 use Rattle.batch.proofs.Ends.{Leaves, leaves_own, leaves_need, leaves_found, leaves_next, need_was, need_rest, found_was, found_is, next_start_lem, next_rest}
@@ -18,7 +18,7 @@ use Rattle.batch.proofs.Tally.{Counts}
 use Rattle.batch.proofs.LeafNode.{list_view_width}
 use Rattle.batch.proofs.DenseAnswers.{dense_same}
 use Rattle.batch.proofs.ListViews.{list_data, list_views_same, mask_counters}
-use Rattle.batch.proofs.Chains.{Chain, list_shows, chain_was, chain_cuts}
+use Rattle.batch.proofs.Chains.{list_shows, chain_was, chain_cuts}
 
 module _ (x : Join) (depth : ℕ) where
   abbrev below : Walk

@@ -1,16 +1,14 @@
 -- A child that is a chain of list-views with a node without children at its end: what stretches ask of its logs. Assumes nothing.
-use mathlib.Core.Path.{◌≡◌, refl, sym, ap, ◌∙◌}
-use mathlib.Core.Bool.{Bool, true, false, cond, ◌&&◌}
+use mathlib.Core.Path.{◌≡◌}
+use mathlib.Core.Bool.{true}
 use mathlib.Core.List.{List}
 use mathlib.Core.Logic.{◌⊎◌, inl, inr}
-use Prim.Native.Nat.{ℕ, zero, suc, ◌+◌, ◌*◌, ◌≤◌, ◌<◌}
+use Prim.Native.Nat.{ℕ, zero, suc, ◌*◌, ◌≤◌, ◌<◌}
 use native.Mathlib.Nat.{mul-le-mul_left}
 use native.Mathlib.Omega.{arith}
-use lib.ListN.{length}
-use lib.Dec.{leb, eqb}
+use lib.Dec.{leb}
 use borrow.Author.Tests.{leb-true}
 use Rattle.bits.proofs.Laws.{Below}
-use Rattle.schema.specs.formats.Code.{is_list_view}
 use Rattle.walk.specs.State.{Join, code_of, bytes_of, rows, bytes, top}
 use Rattle.walk.specs.Log.{Out}
 use Rattle.walk.specs.Copy.{Walk, copy_node, copy_walk}
@@ -18,7 +16,6 @@ use Rattle.plan.specs.parts.Parts.{needed_by, size_of, parts_hold, parts_within,
 use Rattle.plan.proofs.parts.Placed.{within_used, used_holds, bits_held}
 use Rattle.refinement.proofs.orders.Buffers.{needed_chars, needed_starts, needed_sizes}
 use Rattle.batch.specs.Batch.{is_leaf, owned, batch_leaf, batch_node, batch_below}
-use Rattle.batch.proofs.Ends.{Leaves}
 use Rattle.batch.proofs.Stretches.{and_left, and_right, Cuts}
 use Rattle.batch.proofs.LeafCuts.{good, leaf_cuts}
 use Rattle.batch.proofs.LeafLogs.{Roomy, roomy_like, L}

@@ -1,19 +1,18 @@
 -- A child that is a node without children, or a list-view that keeps no nulls of such a child: what its walk by stretches shows. Assumes nothing.
-use mathlib.Core.Path.{◌≡◌, refl, sym, ap, ◌∙◌}
+use mathlib.Core.Path.{◌≡◌, refl}
 use mathlib.Core.Bool.{Bool, true, false, cond, ◌&&◌}
 use mathlib.Core.List.{List}
 use mathlib.Core.Logic.{◌⊎◌, inl, inr}
-use Prim.Native.Nat.{ℕ, zero, suc, ◌+◌, ◌≤◌, ◌<◌}
+use Prim.Native.Nat.{ℕ, zero, suc}
 use native.Mathlib.Omega.{arith}
 use lib.Dec.{leb, ltb, eqb}
 use borrow.Author.Tests.{leb-true, lt-leb, eqb-true}
 use Rattle.schema.specs.formats.Code.{is_list_view}
 use Rattle.walk.specs.State.{Join, code_of, keeps_of, add_rows}
-use Rattle.walk.specs.Log.{Out, done, need, next}
+use Rattle.walk.specs.Log.{Out, done, need}
 use Rattle.walk.specs.Copy.{Walk, copy_node, copy_walk}
-use Rattle.batch.specs.Stretch.{stretches}
 use Rattle.batch.specs.Batch.{is_leaf, owned, batch_leaf, batch_list_view, batch_node, batch_below}
-use Rattle.batch.proofs.Ends.{Leaves, leaves_own, need_was, need_is, need_rest, wrote_rest, next_start_lem}
+use Rattle.batch.proofs.Ends.{leaves_own, need_was, need_is, need_rest, wrote_rest, next_start_lem}
 use Rattle.batch.proofs.Stretches.{and_left, and_right, Cuts, stretch_shows}
 use Rattle.batch.proofs.LeafCuts.{good, leaf_cuts}
 use Rattle.batch.proofs.Nested.{W, at, Lies, by_was, view_cuts}

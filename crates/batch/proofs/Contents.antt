@@ -1,16 +1,15 @@
 -- What a walk at a node without children writes, buffer by buffer, and that a range cut writes what its two halves write. Assumes nothing.
-use mathlib.Core.Path.{◌≡◌, refl, sym, ap, subst, ◌∙◌}
-use mathlib.Core.Bool.{Bool, true, false, cond, not, ◌&&◌}
+use mathlib.Core.Path.{◌≡◌, refl, sym, ap, ◌∙◌}
+use mathlib.Core.Bool.{Bool, true, false, cond, not}
 use mathlib.Core.List.{List, [], ◌∷◌, ◌++◌, append-nil, append_assoc}
 use Prim.Native.Nat.{ℕ, zero, suc, ◌+◌, ◌*◌, ◌-◌, ◌%◌, ◌^◌, ◌≤◌, ◌<◌}
-use native.Mathlib.Nat.{add-zero, zero-add, add-suc, suc-add, add_assoc, mul-add, add-mul, mul_comm, suc-mul, mul-le-mul_left, le_refl, le_trans}
+use native.Mathlib.Nat.{add-zero, zero-add, add-suc, suc-add, add_assoc, mul-add, add-mul, mul_comm}
 use native.Mathlib.Omega.{arith}
-use lib.ListN.{length, take, drop, get_or, replicate, length-replicate, length-drop}
+use lib.ListN.{length, take, drop, replicate, length-replicate, length-drop}
 use lib.Seq.{take-add, drop-drop, length-take-le}
-use lib.Dec.{leb, ltb, eqb}
+use lib.Dec.{leb, eqb}
 use borrow.Author.Tests.{leb-true, le-leb, eqb-true, eqb-false, ne_eqb}
-use Rattle.number.specs.Number.{number, encode, entry}
-use Rattle.number.proofs.Laws.{length_encode}
+use Rattle.number.specs.Number.{encode}
 use Rattle.bits.specs.Bits.{bits_at}
 use Rattle.bits.proofs.Laws.{Below, below_of_lem, below_at_lem, below_take, below_drop, below_replicate, below_bits_at}
 use Rattle.bits.proofs.Puts.{bits_at_add, length_bits_at}
@@ -21,12 +20,11 @@ use Rattle.utils.specs.primitive.Primitive.{rebased}
 use Rattle.utils.specs.byte_view.View.{reviewed_one, reviewed}
 use Rattle.utils.proofs.byte_view.Laws.{length_review}
 use Rattle.refinement.proofs.log_in_room.Bytes.{bytes_moved, bytes_rebased, bytes_reviewed}
-use Rattle.walk.specs.State.{Join, keeps_of, base_of, rows, bytes, top, set_bytes, place, rows_in}
-use Rattle.walk.specs.Log.{Entry, Log, Out, put, mask, done, wrote, need, next}
+use Rattle.walk.specs.State.{Join, keeps_of, base_of, rows, bytes, top, place, rows_in}
+use Rattle.walk.specs.Log.{Log, Out, put, mask, done, wrote, need, next}
 use Rattle.walk.specs.Leaves.{copy_bits, copy_mask, put_string, copy_string}
 use Rattle.batch.specs.Stretch.{never_falls}
-use Rattle.batch.proofs.Ends.{need_is}
-use Rattle.batch.proofs.Leaves.{mask_fits, DataCuts, data_as, entries_cut, more_bytes}
+use Rattle.batch.proofs.Leaves.{mask_fits, DataCuts, data_as, entries_cut}
 use Rattle.batch.proofs.Strings.{off, off_later, Fit, extended_fits, strings_cut, rises}
 use Rattle.batch.proofs.Alike.{lays}
 use Rattle.walk.proofs.Offsets.{string_is}

@@ -2,22 +2,19 @@
 use mathlib.Core.Path.{◌≡◌, refl, sym, ap, subst, ◌∙◌}
 use mathlib.Core.Bool.{Bool, true, false, cond, not, ◌&&◌}
 use mathlib.Core.List.{List}
-use Prim.Native.Nat.{ℕ, zero, suc, ◌+◌, ◌*◌, ◌≤◌, ◌<◌, min}
-use native.Mathlib.Nat.{zero-add, add-zero}
+use Prim.Native.Nat.{ℕ, zero, suc, ◌+◌, ◌*◌, ◌≤◌, ◌<◌}
 use native.Mathlib.Omega.{arith}
-use lib.ListN.{length, get_or}
-use lib.Dec.{leb, ltb, eqb}
-use borrow.Author.Tests.{eqb-true, eqb-false, eq-eqb, ne_eqb, ltb-true, lt-ltb}
-use Rattle.walk.specs.State.{Join, code_of, rows, bytes, top, grown, offset_of}
-use Rattle.walk.specs.Log.{Out, done, next, each}
+use lib.Dec.{eqb}
+use borrow.Author.Tests.{eqb-true, eqb-false}
+use Rattle.walk.specs.State.{Join, code_of, bytes, offset_of}
+use Rattle.walk.specs.Log.{Out, done, each}
 use Rattle.walk.specs.Copy.{Walk, copy_node}
 use Rattle.batch.specs.Batch.{is_leaf}
 use Rattle.batch.proofs.Ends.{Leaves, leaves_own, leaves_done, leaves_next, next_start_lem, next_rest}
-use Rattle.batch.proofs.Tally.{Counts, tally, tally_else, tally_swap}
-use Rattle.batch.proofs.Stretches.{and_left, and_right, Cuts}
+use Rattle.batch.proofs.Tally.{Counts, tally_else, tally_swap}
 use Rattle.batch.proofs.Leaves.{mask_zeros}
 use Rattle.batch.proofs.LeafNode.{leaf_data}
-use Rattle.batch.proofs.LeafCuts.{after, Range, good, node_was, node_goes, after_counters, leaf_step}
+use Rattle.batch.proofs.LeafCuts.{after, Range, node_was, node_goes, after_counters, leaf_step}
 
 module _ (x : Join) (child : Walk) where
   abbrev kid : ℕ → ℕ → ℕ → List ℕ → Out

@@ -3,16 +3,15 @@ use mathlib.Core.Path.{◌≡◌, refl, sym, ap, subst, ◌∙◌}
 use mathlib.Core.Bool.{Bool, true, false, cond, not, ◌&&◌}
 use mathlib.Core.List.{List}
 use Prim.Native.Nat.{ℕ, zero, suc, ◌+◌, ◌*◌, ◌≤◌, ◌<◌, min}
-use native.Mathlib.Nat.{zero-add, add-zero, add-suc}
+use native.Mathlib.Nat.{add-zero}
 use native.Mathlib.Omega.{arith}
-use lib.ListN.{length, get_or}
-use lib.Dec.{leb, ltb, eqb}
-use borrow.Author.Tests.{eqb-true, eqb-false, eq-eqb, ne_eqb, ltb-true, ltb-false, lt-ltb}
+use lib.Dec.{ltb, eqb}
+use borrow.Author.Tests.{eqb-true, eqb-false, ne_eqb, ltb-true, lt-ltb}
 use Rattle.columnar.specs.Types.{half}
 use Rattle.columnar.specs.Test.{every}
 use Rattle.plan.proofs.parts.Placed.{every_at}
 use Rattle.walk.specs.State.{Join, code_of, end_of, id_of, rows, top, grown, place, rows_in}
-use Rattle.walk.specs.Log.{Out, done, wrote, need, found, next, each}
+use Rattle.walk.specs.Log.{Out, done, need, next, each}
 use Rattle.walk.specs.Copy.{Walk, child_with, id_at, position_at, dense_to, dense_row, copy_dense, copy_node, copy_walk}
 use Rattle.batch.specs.Stretch.{sum_of, stretches}
 use Rattle.batch.specs.Batch.{is_leaf, owned, batch_leaf}

@@ -1,22 +1,21 @@
 -- The log of a dense union's children by stretches does to every part what the log of its rows in turn does. Assumes nothing.
-use mathlib.Core.Path.{◌≡◌, refl, sym, ap, subst, ◌∙◌}
+use mathlib.Core.Path.{◌≡◌, refl, sym, ap, ◌∙◌}
 use mathlib.Core.Bool.{Bool, true, false, cond, not, ◌&&◌}
-use mathlib.Core.List.{List, [], ◌∷◌, ◌++◌}
-use Prim.Native.Nat.{ℕ, zero, suc, ◌+◌, ◌*◌, ◌≤◌, ◌<◌, min}
+use mathlib.Core.List.{List, [], ◌++◌}
+use Prim.Native.Nat.{ℕ, zero, suc, ◌+◌, ◌<◌}
 use native.Mathlib.Omega.{arith}
-use lib.ListN.{length, get_or}
-use lib.Dec.{leb, ltb, eqb}
+use lib.Dec.{ltb, eqb}
 use borrow.Author.Tests.{eqb-true, eqb-false, ltb-true}
 use Rattle.bits.proofs.Laws.{Below}
 use Rattle.walk.specs.State.{Join, code_of, end_of, id_of, rows, bytes}
-use Rattle.walk.specs.Log.{Log, Out, done, need, next, each}
+use Rattle.walk.specs.Log.{Out, done, need, next, each}
 use Rattle.walk.specs.Copy.{Walk, child_with, id_at, position_at, copy_node, copy_walk}
 use Rattle.batch.specs.Stretch.{stretches}
 use Rattle.batch.specs.Batch.{is_leaf, owned, batch_leaf}
 use Rattle.batch.specs.Dense.{home, takes, takes_at, batch_fields}
-use Rattle.batch.proofs.Ends.{Leaves, leaves_own, need_was, need_is, need_rest, next_start_lem, next_rest}
+use Rattle.batch.proofs.Ends.{Leaves, need_was, need_is, need_rest, next_start_lem, next_rest}
 use Rattle.batch.proofs.Tally.{Counts}
-use Rattle.batch.proofs.Stretches.{and_left, and_right, Cuts}
+use Rattle.batch.proofs.Stretches.{and_left, and_right}
 use Rattle.batch.proofs.LeafCuts.{good, leaf_cuts}
 use Rattle.batch.proofs.Windows.{within, within_append, AllInside, inside_append}
 use Rattle.batch.proofs.Alike.{Window, within_window, Alike}
@@ -26,7 +25,7 @@ use Rattle.batch.proofs.StretchLogs.{next_log, stretches_write}
 use Rattle.batch.proofs.Dense.{pure, of_child}
 use Rattle.batch.proofs.DenseAnswers.{child_leaf, child_rows, child_empty, child_counters, Found, fewer, gone2, here2}
 use Rattle.batch.proofs.DenseLogs.{roomy_as, log_off}
-use Rattle.batch.proofs.DenseWithin.{Agree, kid_counters, kid_else, kid_before, rows_off, own_before, rows_own}
+use Rattle.batch.proofs.DenseWithin.{Agree, kid_counters, kid_else, rows_off, own_before, rows_own}
 
 module _ (x : Join) (M : ℕ) (K : ℕ → ℕ → Type 0) (body : Below 256 x.body) (depth i slot N : ℕ) where
   abbrev S : List ℕ

@@ -1,28 +1,21 @@
 -- The logs of a dense union's children, part by part: a child's rows may go before the others. Assumes nothing.
-use mathlib.Core.Path.{◌≡◌, refl, sym, ap, subst, ◌∙◌}
-use mathlib.Core.Bool.{Bool, true, false, cond, not, ◌&&◌}
-use mathlib.Core.List.{List, [], ◌∷◌, ◌++◌, append_assoc, append-nil}
-use Prim.Native.Nat.{ℕ, zero, suc, ◌+◌, ◌*◌, ◌≤◌, ◌<◌, min}
-use native.Mathlib.Omega.{arith}
-use lib.ListN.{length, get_or}
-use lib.Dec.{leb, ltb, eqb}
+use mathlib.Core.Path.{◌≡◌, refl, sym, ap, ◌∙◌}
+use mathlib.Core.Bool.{Bool, true, false}
+use mathlib.Core.List.{List, ◌++◌}
+use Prim.Native.Nat.{ℕ}
+use lib.Dec.{eqb}
 use borrow.Author.Tests.{eqb-true, eqb-false}
 use Rattle.bits.proofs.Laws.{Below}
-use Rattle.walk.specs.State.{Join, code_of, rows, bytes, offset_of}
-use Rattle.walk.specs.Log.{Log, Out, done, next, each}
+use Rattle.walk.specs.State.{Join, code_of, rows, bytes}
+use Rattle.walk.specs.Log.{Log, Out}
 use Rattle.walk.specs.Copy.{Walk, copy_node}
 use Rattle.batch.specs.Batch.{is_leaf}
-use Rattle.batch.proofs.Ends.{Leaves, leaves_own, leaves_done, leaves_next, next_start_lem, next_rest}
-use Rattle.batch.proofs.Tally.{Counts, tally, tally_else}
-use Rattle.batch.proofs.Stretches.{and_left, and_right, Cuts}
-use Rattle.batch.proofs.Leaves.{mask_zeros}
-use Rattle.batch.proofs.LeafNode.{leaf_data}
-use Rattle.batch.proofs.LeafCuts.{after, Range, node_was, node_goes, after_counters}
+use Rattle.batch.proofs.Ends.{Leaves}
+use Rattle.batch.proofs.Tally.{Counts}
+use Rattle.batch.proofs.LeafCuts.{after, node_was, node_goes}
 use Rattle.batch.proofs.Windows.{within, within_append, AllInside, inside_append}
-use Rattle.batch.proofs.Alike.{Window, within_window, Alike, alike_refl, alike_is, alike_sym, alike_trans, alike_append}
-use Rattle.batch.proofs.LeafLogs.{Roomy, roomy_like, canon_of, canon_of_off, roomy_before, node_alike, node_logs_none}
-use Rattle.batch.proofs.StretchLogs.{next_log}
-use Rattle.batch.proofs.Dense.{leaf_swap, pure, of_child, of_left, rows_swap}
+use Rattle.batch.proofs.Alike.{Window, within_window, Alike, alike_sym, alike_trans}
+use Rattle.batch.proofs.LeafLogs.{Roomy, roomy_like, canon_of, canon_of_off, node_alike}
 
 module _ (plan parts : List ℕ) (M : ℕ) (K : ℕ → ℕ → Type 0) where
   -- a log of one node leaves all other nodes' parts

@@ -1,12 +1,12 @@
 -- THEOREM 2 for dense unions, part by part. Assumes nothing.
 use mathlib.Core.Path.{◌≡◌, refl, sym, ap, subst, ◌∙◌}
-use mathlib.Core.Bool.{Bool, true, false, cond, not, ◌&&◌}
-use mathlib.Core.List.{List, [], ◌∷◌, ◌++◌}
-use Prim.Native.Nat.{ℕ, zero, suc, ◌+◌, ◌*◌, ◌≤◌, ◌<◌, min}
-use native.Mathlib.Nat.{zero-add, add-zero, add_assoc}
+use mathlib.Core.Bool.{Bool, true, cond, ◌&&◌}
+use mathlib.Core.List.{List, [], ◌∷◌}
+use Prim.Native.Nat.{ℕ, zero, suc, ◌+◌, ◌*◌, ◌≤◌, ◌<◌}
+use native.Mathlib.Nat.{zero-add, add-zero}
 use native.Mathlib.Omega.{arith}
 use lib.ListN.{length, take, drop, get_or}
-use lib.Dec.{leb, ltb, eqb}
+use lib.Dec.{leb, ltb}
 use borrow.Author.Tests.{leb-true, ltb-true}
 use Rattle.number.specs.Number.{encode}
 use Rattle.bits.proofs.Laws.{Below}
@@ -15,17 +15,17 @@ use Rattle.columnar.specs.Test.{every}
 use Rattle.plan.proofs.parts.Placed.{every_at}
 use Rattle.utils.specs.Pieces.{pieces, numbers}
 use Rattle.utils.proofs.Pieces.{pieces_same}
-use Rattle.walk.specs.State.{Join, code_of, end_of, rows, top, place, rows_in}
-use Rattle.walk.specs.Log.{Log, Out, put, done, wrote, need, next, each}
-use Rattle.walk.specs.Copy.{Walk, child_with, id_at, position_at, dense_row, copy_dense, copy_walk}
+use Rattle.walk.specs.State.{Join, code_of, end_of, rows, place, rows_in}
+use Rattle.walk.specs.Log.{Out, put, done, wrote, need, next, each}
+use Rattle.walk.specs.Copy.{id_at, position_at, copy_dense, copy_walk}
 use Rattle.batch.specs.Stretch.{sum_of}
 use Rattle.batch.specs.Batch.{is_leaf, owned, batch_leaf}
-use Rattle.batch.specs.Dense.{home, takes, lands_at, batch_fields, batch_dense}
-use Rattle.batch.proofs.Ends.{Leaves, leaves_own, need_was, need_rest, wrote_rest, next_start_lem, next_rest}
+use Rattle.batch.specs.Dense.{home, lands_at, batch_fields, batch_dense}
+use Rattle.batch.proofs.Ends.{Leaves, need_was, need_rest, wrote_rest, next_start_lem, next_rest}
 use Rattle.batch.proofs.Tally.{Counts}
-use Rattle.batch.proofs.Stretches.{and_left, and_right}
-use Rattle.batch.proofs.Windows.{span, within, AllInside}
-use Rattle.batch.proofs.Alike.{Window, Alike, alike_refl, alike_sym, alike_trans, alike_append}
+use Rattle.batch.proofs.Stretches.{and_left}
+use Rattle.batch.proofs.Windows.{span, AllInside}
+use Rattle.batch.proofs.Alike.{Alike, alike_refl, alike_sym, alike_trans, alike_append}
 use Rattle.batch.proofs.LeafLogs.{Roomy}
 use Rattle.batch.proofs.Dense.{pure}
 use Rattle.batch.proofs.DenseAnswers.{Result, fields_same}

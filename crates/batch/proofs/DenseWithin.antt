@@ -1,24 +1,23 @@
 -- The rows of a dense union, seen at the parts of one child, are that child's rows. Assumes nothing.
 use mathlib.Core.Path.{◌≡◌, refl, sym, ap, subst, ◌∙◌}
-use mathlib.Core.Bool.{Bool, true, false, cond, not, ◌&&◌}
-use mathlib.Core.List.{List, [], ◌∷◌, ◌++◌, append_assoc, append-nil}
-use Prim.Native.Nat.{ℕ, zero, suc, ◌+◌, ◌*◌, ◌≤◌, ◌<◌, min}
+use mathlib.Core.Bool.{Bool, true, false, cond}
+use mathlib.Core.List.{List}
+use Prim.Native.Nat.{ℕ, zero, suc, ◌+◌, ◌*◌, ◌≤◌, ◌<◌}
 use native.Mathlib.Omega.{arith}
-use lib.ListN.{length, get_or}
-use lib.Dec.{leb, ltb, eqb}
+use lib.Dec.{eqb}
 use borrow.Author.Tests.{eqb-true, eqb-false}
 use Rattle.bits.proofs.Laws.{Below}
 use Rattle.walk.specs.State.{Join, code_of, rows, bytes, grown, offset_of}
-use Rattle.walk.specs.Log.{Log, Out, done, next, each}
+use Rattle.walk.specs.Log.{Out, done, each}
 use Rattle.walk.specs.Copy.{Walk, copy_node}
 use Rattle.batch.specs.Batch.{is_leaf}
-use Rattle.batch.proofs.Ends.{Leaves, leaves_own, leaves_done, leaves_next, next_start_lem, next_rest}
-use Rattle.batch.proofs.Tally.{Counts, tally, tally_rows, tally_bytes, tally_else}
+use Rattle.batch.proofs.Ends.{Leaves, next_start_lem, next_rest}
+use Rattle.batch.proofs.Tally.{Counts, tally_rows, tally_bytes, tally_else}
 use Rattle.batch.proofs.Leaves.{mask_zeros}
 use Rattle.batch.proofs.LeafNode.{leaf_data}
-use Rattle.batch.proofs.LeafCuts.{after, Range, node_was, node_goes, after_counters, leaf_step}
+use Rattle.batch.proofs.LeafCuts.{node_was, leaf_step}
 use Rattle.batch.proofs.Windows.{within, within_append, AllInside, inside_append}
-use Rattle.batch.proofs.Alike.{Window, within_window, Alike, alike_sym}
+use Rattle.batch.proofs.Alike.{Window, within_window}
 use Rattle.batch.proofs.LeafLogs.{Roomy, roomy_before, node_logs_none}
 use Rattle.batch.proofs.StretchLogs.{next_log}
 use Rattle.batch.proofs.Dense.{pure, of_child}

@@ -1,13 +1,13 @@
 -- The log of a dense union by stretches does to every part what that of its rows one after the other does. Assumes nothing.
-use mathlib.Core.Path.{◌≡◌, refl, sym, ap, subst, ◌∙◌}
-use mathlib.Core.Bool.{Bool, true, false, cond, not, ◌&&◌}
-use mathlib.Core.List.{List, [], ◌∷◌, ◌++◌, append-nil}
+use mathlib.Core.Path.{◌≡◌, refl, sym, ap, ◌∙◌}
+use mathlib.Core.Bool.{Bool, true, false, cond, ◌&&◌}
+use mathlib.Core.List.{List, [], ◌∷◌, ◌++◌}
 use Prim.Native.Nat.{ℕ, zero, suc, ◌+◌, ◌*◌, ◌≤◌, ◌<◌, min}
-use native.Mathlib.Nat.{zero-add, add-zero, add-suc, add_assoc}
+use native.Mathlib.Nat.{add-zero}
 use native.Mathlib.Omega.{arith}
 use lib.ListN.{length, take, drop, get_or, length-append, length-drop}
 use lib.Seq.{take-suc, get_or-drop}
-use lib.Dec.{leb, ltb, eqb}
+use lib.Dec.{ltb, eqb}
 use borrow.Author.Tests.{lt-ltb, ltb-true, eqb-true, eqb-false}
 use Rattle.number.specs.Number.{encode}
 use Rattle.number.proofs.Laws.{length_encode}
@@ -17,9 +17,9 @@ use Rattle.utils.specs.Pieces.{pieces}
 use Rattle.utils.proofs.Pieces.{pieces_same, length_pieces, length_numbers}
 use Rattle.refinement.proofs.log_in_room.Bytes.{bytes_encode}
 use Rattle.refinement.proofs.walk_is_model.Entries.{pieces_first}
-use Rattle.walk.specs.State.{Join, code_of, end_of, id_of, rows, top, grown, place, rows_in}
+use Rattle.walk.specs.State.{Join, code_of, end_of, id_of, rows, top, grown, place}
 use Rattle.walk.specs.Log.{Log, Out, put, done, wrote, need, found, next, each}
-use Rattle.walk.specs.Copy.{Walk, child_with, id_at, position_at, dense_to, dense_row, copy_node, copy_walk}
+use Rattle.walk.specs.Copy.{Walk, child_with, id_at, position_at, dense_to, dense_row, copy_walk}
 use Rattle.batch.specs.Stretch.{sum_of, stretches}
 use Rattle.batch.specs.Batch.{is_leaf, owned, batch_leaf}
 use Rattle.batch.specs.Dense.{home, takes, takes_at, lands_at, batch_fields}
@@ -27,8 +27,8 @@ use Rattle.batch.proofs.Ends.{Leaves, leaves_wrote, leaves_need, leaves_found, l
 use Rattle.batch.proofs.Tally.{Counts}
 use Rattle.batch.proofs.Stretches.{and_left, and_right}
 use Rattle.batch.proofs.LeafCuts.{leaf_step}
-use Rattle.batch.proofs.Windows.{span, within, AllInside, inside_append}
-use Rattle.batch.proofs.Alike.{Window, Alike, alike_refl, alike_sym, alike_trans, alike_append}
+use Rattle.batch.proofs.Windows.{span, AllInside, inside_append}
+use Rattle.batch.proofs.Alike.{Alike, alike_refl, alike_sym, alike_trans, alike_append}
 use Rattle.batch.proofs.LeafLogs.{Roomy}
 use Rattle.batch.proofs.StretchLogs.{next_log}
 use Rattle.batch.proofs.ListLogs.{below_numbers, gather, puts_none}

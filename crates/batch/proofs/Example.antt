@@ -1,8 +1,6 @@
 -- The examples of specs/Example, computed. Assumes nothing.
 use mathlib.Core.Path.{◌≡◌, refl}
 use mathlib.Core.Bool.{true}
-use mathlib.Core.List.{List, [], ◌∷◌}
-use Prim.Native.Nat.{ℕ}
 use Rattle.number.specs.Number.{number, encode, splice}
 use Rattle.bits.specs.Bits.{digits, bits, value, pack, packed, zeros, pad, bits_at, put_bits}
 use Rattle.utils.specs.Pieces.{pieces}

@@ -1,11 +1,9 @@
 -- What stretches ask of a child's logs, for a node without children. Assumes nothing.
-use mathlib.Core.Path.{◌≡◌, refl, sym, ap, subst, ◌∙◌}
-use mathlib.Core.Bool.{Bool, true, false, cond, ◌&&◌}
-use mathlib.Core.List.{List, [], ◌∷◌, ◌++◌}
-use Prim.Native.Nat.{ℕ, zero, suc, ◌+◌, ◌≤◌, ◌<◌}
+use mathlib.Core.Path.{◌≡◌, refl, sym, ap, ◌∙◌}
+use mathlib.Core.Bool.{true}
+use mathlib.Core.List.{List}
+use Prim.Native.Nat.{ℕ, ◌+◌, ◌<◌}
 use native.Mathlib.Omega.{arith}
-use lib.Dec.{eqb}
-use borrow.Author.Tests.{ne_eqb}
 use Rattle.bits.proofs.Laws.{Below}
 use Rattle.walk.specs.State.{Join, code_of, rows, bytes, add_rows}
 use Rattle.walk.specs.Log.{Log, Out, need}
@@ -14,8 +12,7 @@ use Rattle.refinement.proofs.walk_is_model.Counters.{rows_other, bytes_of_rows}
 use Rattle.batch.specs.Batch.{is_leaf, steady, batch_leaf}
 use Rattle.batch.proofs.Ends.{Leaves, need_was, need_is}
 use Rattle.batch.proofs.Tally.{Counts, rows_counters}
-use Rattle.batch.proofs.LeafCuts.{after, Range, good, node_was, node_goes, range_none, leaf_cuts}
-use Rattle.batch.proofs.Contents.{bits_of}
+use Rattle.batch.proofs.LeafCuts.{after, good, node_was, node_goes, range_none, leaf_cuts}
 use Rattle.batch.proofs.Windows.{within}
 use Rattle.batch.proofs.Alike.{Window, Alike, alike_sym, alike_trans}
 use Rattle.batch.proofs.LeafLogs.{Roomy, roomy_like, canon_of, canon_of_off, roomy_before, node_log, node_alike, node_logs_cut, node_logs_none}

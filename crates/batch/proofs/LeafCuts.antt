@@ -1,24 +1,23 @@
 -- The walk of a copy at a node without children may be cut where `batchLeaf` answers 0. Assumes nothing.
 use mathlib.Core.Path.{◌≡◌, refl, sym, ap, subst, ◌∙◌}
-use mathlib.Core.Bool.{Bool, true, false, cond, ◌&&◌}
+use mathlib.Core.Bool.{Bool, true, false, cond}
 use mathlib.Core.List.{List}
-use Prim.Native.Nat.{ℕ, zero, suc, ◌+◌, ◌*◌, ◌≤◌, ◌<◌}
-use native.Mathlib.Nat.{add-zero, add_assoc}
+use Prim.Native.Nat.{ℕ, ◌+◌, ◌*◌, ◌≤◌, ◌<◌}
+use native.Mathlib.Nat.{add_assoc}
 use native.Mathlib.Omega.{arith}
-use lib.ListN.{length, get_or}
-use lib.Dec.{leb, ltb, eqb}
+use lib.Dec.{ltb}
 use borrow.Author.Tests.{ltb-true, lt-ltb}
 use Rattle.schema.specs.formats.Code.{is_string}
-use Rattle.walk.specs.State.{Join, code_of, bytes_of, place, rows, bytes, top, grown, add_rows, offset_of, far, slot_of}
+use Rattle.walk.specs.State.{Join, code_of, bytes_of, place, rows, bytes, grown, add_rows, offset_of, far, slot_of}
 use Rattle.walk.specs.Log.{Out, need, found, next}
 use Rattle.refinement.proofs.walk_is_model.Counters.{bytes_of_rows}
 use Rattle.walk.specs.Copy.{Walk, copy_slots, copy_node, copy_walk}
 use Rattle.batch.specs.Stretch.{never_falls}
 use Rattle.batch.specs.Batch.{is_leaf, steady, batch_leaf}
-use Rattle.batch.proofs.Ends.{Leaves, leaves_own, leaves_need, leaves_found, leaves_next, need_was, need_is, found_was, found_is}
+use Rattle.batch.proofs.Ends.{Leaves, leaves_need, leaves_found, leaves_next, need_was, need_is, found_was, found_is}
 use Rattle.batch.proofs.Tally.{Counts, tally, tally_rows, tally_bytes, tally_else, tally_none, tally_twice, tally_counters, tally_frame, rows_counters}
 use Rattle.batch.proofs.Stretches.{Cuts}
-use Rattle.batch.proofs.Leaves.{mask_zeros, zeros_cut, zeros_no, DataCuts}
+use Rattle.batch.proofs.Leaves.{mask_zeros, zeros_cut, zeros_no}
 use Rattle.batch.proofs.LeafNode.{st, st_first, leaf_data, Passes, slots_was, slots_goes, passes_first, passes_second, passes_none}
 
 module _ (x : Join) (k : ℕ) (leaf : is_leaf (code_of x.plan k) ≡ true) where

@@ -1,29 +1,28 @@
 -- The log of a walk at a node without children, part by part: it may be cut. Assumes nothing.
 use mathlib.Core.Path.{◌≡◌, refl, sym, ap, subst, ◌∙◌}
-use mathlib.Core.Bool.{Bool, true, false, cond, not, ◌&&◌}
-use mathlib.Core.List.{List, [], ◌∷◌, ◌++◌, append-nil, append_assoc}
-use Prim.Native.Nat.{ℕ, zero, suc, ◌+◌, ◌*◌, ◌-◌, ◌≤◌, ◌<◌, min}
-use native.Mathlib.Nat.{add-zero, add_assoc}
+use mathlib.Core.Bool.{Bool, true}
+use mathlib.Core.List.{List, [], ◌∷◌, ◌++◌, append-nil}
+use Prim.Native.Nat.{ℕ, suc, ◌+◌, ◌*◌, ◌≤◌, ◌<◌}
+use native.Mathlib.Nat.{add_assoc}
 use native.Mathlib.Omega.{arith}
-use lib.ListN.{length, get_or}
+use lib.ListN.{length}
 use lib.Seq.{get_or-set_other}
-use lib.Dec.{leb, ltb, eqb}
 use borrow.Author.Tests.{lt-ltb}
 use Rattle.bits.proofs.Laws.{Below}
 use Rattle.schema.specs.formats.Code.{is_string}
-use Rattle.walk.specs.State.{Join, code_of, rows, nulls, bytes, top, grown, add_nulls, set_bytes, add_rows, offset_of, far, slot_of}
-use Rattle.walk.specs.Log.{Entry, Log, Out, put, mask, done, need, found, next}
+use Rattle.walk.specs.State.{Join, code_of, rows, nulls, bytes, top, grown, add_nulls, add_rows, offset_of, far, slot_of}
+use Rattle.walk.specs.Log.{Log, put, mask, done, found, next}
 use Rattle.walk.specs.Leaves.{copy_mask}
-use Rattle.walk.specs.Copy.{Walk, masked, copy_data, copy_slots, copy_node}
+use Rattle.walk.specs.Copy.{Walk, copy_data, copy_slots, copy_node}
 use Rattle.batch.specs.Batch.{is_leaf}
-use Rattle.batch.proofs.Ends.{Leaves, leaves_done, leaves_next, need_is, found_is, next_is}
-use Rattle.batch.proofs.Tally.{Counts, tally, tally_rows, tally_bytes}
+use Rattle.batch.proofs.Ends.{need_is, found_is, next_is}
+use Rattle.batch.proofs.Tally.{Counts, tally_rows}
 use Rattle.batch.proofs.Leaves.{mask_zeros, mask_goes}
-use Rattle.batch.proofs.Contents.{keeps, bits_of, mask_log, bits_long, bits_below, bits_cut, Logged, all, bare, DataLogs, Kind}
+use Rattle.batch.proofs.Contents.{keeps, bits_of, mask_log, bits_long, bits_below, bits_cut, Logged, all, bare, DataLogs}
 use Rattle.batch.proofs.LeafNode.{st, firsts, leaf_kind_lem, leaf_data, idle, data_is, masks, bytes_kept, Passes}
-use Rattle.batch.proofs.LeafCuts.{after, Range, good, range_first, range_second, range_none, after_after, after_none, after_bytes, after_counters}
-use Rattle.batch.proofs.Windows.{span, within, AllInside}
-use Rattle.batch.proofs.Alike.{lays, Alike, alike_refl, alike_is, alike_sym, alike_trans, alike_append, canon, Held, held_inside, lays_inside, canon_none, canon_cut, canon_off, mask_none}
+use Rattle.batch.proofs.LeafCuts.{after, Range, good, range_first, range_second, after_after, after_none, after_bytes, after_counters}
+use Rattle.batch.proofs.Windows.{span, within}
+use Rattle.batch.proofs.Alike.{lays, Alike, alike_refl, alike_sym, alike_trans, alike_append, canon, Held, held_inside, lays_inside, canon_none, canon_cut, canon_off, mask_none}
 
 no_length : (l : List ℕ) → length l ≡ 0 → l ≡ []
 no_length [] h = refl

@@ -1,32 +1,28 @@
 -- A node without children may be cut. Assumes nothing.
-use mathlib.Core.Path.{◌≡◌, refl, sym, ap, subst, ◌∙◌}
-use mathlib.Core.Bool.{Bool, true, false, cond, ◌&&◌}
+use mathlib.Core.Path.{◌≡◌, refl, sym, ap, ◌∙◌}
+use mathlib.Core.Bool.{Bool, true, false, cond}
 use mathlib.Core.List.{List}
-use Prim.Native.Nat.{ℕ, zero, suc, ◌+◌, ◌*◌, ◌≤◌, ◌<◌}
-use native.Mathlib.Nat.{add-zero, add_assoc}
+use Prim.Native.Nat.{ℕ, ◌+◌, ◌*◌, ◌≤◌}
 use native.Mathlib.Numerals.{add-one}
 use native.Mathlib.Omega.{arith}
-use lib.ListN.{length, get_or, take, drop}
 use lib.Seq.{get_or-set_other}
-use lib.Dec.{leb, ltb, eqb}
-use borrow.Author.Tests.{leb-true, leb-false, le-leb, lt-leb, ltb-true, lt-ltb, le-ltb, eqb-true, eqb-false}
+use lib.Dec.{leb, eqb}
+use borrow.Author.Tests.{leb-true, leb-false, le-leb, lt-leb, lt-ltb, eqb-true, eqb-false}
 use Rattle.columnar.specs.Types.{half}
 use Rattle.schema.specs.formats.Code.{width_of, between, is_fixed, is_string, is_view, is_list_view}
-use Rattle.utils.specs.primitive.Primitive.{rebased}
-use Rattle.utils.specs.byte_view.View.{reviewed}
 use Rattle.utils.specs.Offsets.{largest}
 use Rattle.plan.specs.parts.Parts.{needed_by}
 use Rattle.refinement.proofs.orders.Buffers.{needed_fixed, needed_offsets, needed_views}
-use Rattle.walk.specs.State.{Join, code_of, dictionary_of, bytes_of, base_of, rows, nulls, bytes, top, grown, add_rows, add_nulls, set_bytes, place, offset_of, far, slot_of}
-use Rattle.walk.specs.Log.{Out, put, fail, done, wrote, need, found, next}
+use Rattle.walk.specs.State.{Join, code_of, dictionary_of, bytes_of, nulls, bytes, top, grown, add_nulls, set_bytes, place}
+use Rattle.walk.specs.Log.{fail}
 use Rattle.walk.specs.Leaves.{copy_mask, copy_numbers, copy_keys, copy_views, copy_string}
-use Rattle.walk.specs.Copy.{Walk, masked, copy_data, copy_slots, copy_node, copy_walk}
+use Rattle.walk.specs.Copy.{Walk, masked, copy_data, copy_slots}
 use Rattle.batch.specs.Stretch.{never_falls}
-use Rattle.batch.specs.Batch.{is_leaf, steady, batch_leaf}
-use Rattle.batch.proofs.Ends.{Leaves, leaves_own, leaves_done, leaves_need, leaves_found, leaves_next, need_was, need_is, found_was, found_is, next_first, next_last}
-use Rattle.batch.proofs.Tally.{Counts, tally, tally_rows, tally_else, tally_none, tally_twice, tally_counters}
-use Rattle.batch.proofs.Stretches.{and_left, and_right, Cuts}
-use Rattle.batch.proofs.Leaves.{mask_fits, mask_zeros, mask_was, mask_goes, mask_first, mask_second, mask_none, zeros_cut, zeros_no, DataCuts}
+use Rattle.batch.specs.Batch.{is_leaf}
+use Rattle.batch.proofs.Ends.{Leaves, leaves_done, leaves_next, next_first, next_last}
+use Rattle.batch.proofs.Tally.{Counts, tally}
+use Rattle.batch.proofs.Stretches.{and_left, and_right}
+use Rattle.batch.proofs.Leaves.{mask_fits, mask_zeros, mask_was, mask_goes, mask_first, mask_second, mask_none, DataCuts}
 use Rattle.batch.proofs.Strings.{falls_first}
 use Rattle.batch.proofs.Contents.{Kind, kind_as, numbers_kind, keys_kind, views_kind, strings_kind}
 

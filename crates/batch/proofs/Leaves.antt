@@ -1,28 +1,21 @@
 -- The walk at a node without children: what it asks for, what it leaves, and that it may be cut. Assumes nothing.
-use mathlib.Core.Path.{◌≡◌, refl, sym, ap, subst, ◌∙◌}
-use mathlib.Core.Bool.{Bool, true, false, cond, ◌&&◌}
-use mathlib.Core.List.{List, [], ◌∷◌}
-use Prim.Native.Nat.{ℕ, zero, suc, ◌+◌, ◌*◌, ◌-◌, ◌≤◌, ◌<◌, ◌^◌, ◌/◌}
-use native.Mathlib.Nat.{add-zero, add_assoc, mul-add, mul-le-mul_left, le_refl, le_trans}
+use mathlib.Core.Path.{◌≡◌, refl, sym}
+use mathlib.Core.Bool.{Bool, true, false, cond}
+use mathlib.Core.List.{List}
+use Prim.Native.Nat.{ℕ, ◌+◌, ◌*◌, ◌≤◌}
+use native.Mathlib.Nat.{add_assoc, mul-le-mul_left, le_trans}
 use native.Mathlib.Omega.{arith}
-use lib.ListN.{length, get_or, replicate}
-use lib.Dec.{leb, ltb, eqb}
-use borrow.Author.Tests.{leb-true, le-leb, ltb-true, ltb-false, lt-ltb, le-ltb, eqb-true, eqb-false, eq-eqb, ne_eqb}
-use Rattle.number.specs.Number.{number, entry}
+use lib.ListN.{length, replicate}
+use lib.Dec.{leb, eqb}
+use borrow.Author.Tests.{leb-true, le-leb}
 use Rattle.bits.specs.Bits.{bits_at, zeros}
 use Rattle.bits.proofs.Puts.{zeros_add}
 use Rattle.bits.proofs.Steps.{zeros_none}
-use Rattle.utils.specs.Offsets.{largest, moved, moved_offsets}
-use Rattle.utils.specs.Extension.{extended, over_at}
-use Rattle.utils.specs.declared.Extended.{Extended}
-use Rattle.utils.specs.declared.Extended.TheVariants.{Fits, Over, Falls}
 use Rattle.walk.specs.State.{Join, keeps_of, rows, nulls, bytes, top, grown, add_nulls, set_bytes, place, rows_in}
-use Rattle.walk.specs.Log.{Entry, Out, put, mask, fail, done, wrote, need, next}
-use Rattle.walk.specs.Leaves.{copy_bits, copy_mask, put_string, put_extended, copy_string}
-use Rattle.batch.specs.Stretch.{never_falls}
-use Rattle.batch.proofs.Ends.{Leaves, leaves_done, leaves_wrote, leaves_need, leaves_next, need_was, need_is}
+use Rattle.walk.specs.Log.{Entry, Out, mask, done, wrote, need}
+use Rattle.walk.specs.Leaves.{copy_bits, copy_mask}
+use Rattle.batch.proofs.Ends.{Leaves, leaves_done, leaves_wrote, leaves_need, leaves_next, need_was}
 use Rattle.batch.proofs.Tally.{Counts, set_same}
-use Rattle.batch.proofs.Stretches.{and_left, and_right}
 
 -- more entries need more bytes
 pub more_bytes : (at w p q : ℕ) → p ≤ q → at + w * p ≤ at + w * q

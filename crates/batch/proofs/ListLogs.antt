@@ -1,15 +1,15 @@
 -- The log of a list-view's rows: all offsets and all sizes may go first. Assumes nothing.
-use mathlib.Core.Path.{◌≡◌, refl, sym, ap, subst, ◌∙◌}
+use mathlib.Core.Path.{◌≡◌, refl, sym, ap, ◌∙◌}
 use mathlib.Core.Bool.{Bool, true, false, cond, ◌&&◌}
-use mathlib.Core.List.{List, [], ◌∷◌, ◌++◌, append_assoc, append-nil}
+use mathlib.Core.List.{List, [], ◌∷◌, ◌++◌}
 use Prim.Native.Nat.{ℕ, zero, suc, ◌+◌, ◌*◌, ◌≤◌, ◌<◌}
-use native.Mathlib.Nat.{zero-add, add-zero, add-suc, suc-add, add_assoc, mul-add, add-mul, suc-mul, mul-suc, mul_comm, mul-le-mul_right}
+use native.Mathlib.Nat.{add-zero, add-mul, suc-mul, mul-suc, mul_comm}
 use native.Mathlib.Omega.{arith}
-use lib.ListN.{length, take, drop, get_or, length-append, length-drop}
+use lib.ListN.{length, take, drop, length-append, length-drop}
 use lib.Seq.{take-add, drop-drop, get_or-drop}
-use lib.Dec.{leb, ltb, eqb}
-use borrow.Author.Tests.{lt-ltb, eqb-true, eqb-false, eq-eqb}
-use Rattle.number.specs.Number.{number, encode, entry, splice}
+use lib.Dec.{ltb, eqb}
+use borrow.Author.Tests.{lt-ltb, eqb-true}
+use Rattle.number.specs.Number.{encode, entry, splice}
 use Rattle.number.proofs.Laws.{length_encode, encode_number, splice_splice, splice_nil, length_splice}
 use Rattle.bits.proofs.Laws.{Below, below_of_lem, below_at_lem, below_append, below_splice, none}
 use Rattle.utils.specs.Pieces.{pieces}
@@ -18,16 +18,16 @@ use Rattle.columnar.specs.Types.{half}
 use Rattle.refinement.proofs.log_in_room.Bytes.{bytes_encode}
 use Rattle.refinement.proofs.walk_is_model.Entries.{pieces_first}
 use Rattle.walk.specs.State.{Join, rows, top, grown, place}
-use Rattle.walk.specs.Log.{Entry, Log, Out, put, done, wrote, need, next, each}
+use Rattle.walk.specs.Log.{Log, Out, put, done, wrote, need, next, each}
 use Rattle.walk.specs.Copy.{Walk, list_view_row}
 use Rattle.batch.specs.Stretch.{sum_of}
 use Rattle.batch.proofs.Ends.{Leaves, leaves_wrote, leaves_need, leaves_next, next_start_lem, next_rest}
 use Rattle.batch.proofs.Tally.{Counts}
-use Rattle.batch.proofs.Stretches.{and_left, and_right, Cuts}
+use Rattle.batch.proofs.Stretches.{Cuts}
 use Rattle.batch.proofs.ListViews.{sum_up}
 use Rattle.batch.proofs.Windows.{span, within, within_append, AllInside, inside_append}
 use Rattle.batch.proofs.Alike.{Window, Alike, alike_refl, alike_sym, alike_trans, alike_append}
-use Rattle.batch.proofs.StretchLogs.{CutLogs, next_log, each_before, each_self, each_log}
+use Rattle.batch.proofs.StretchLogs.{CutLogs, next_log, each_before, each_self}
 
 -- ---- numbers one behind the other
 

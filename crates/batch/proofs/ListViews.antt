@@ -1,11 +1,11 @@
 -- A list-view's data: where the walk by stretches answers 0, the walk of a copy answers 0 and leaves the same counters. Assumes nothing.
-use mathlib.Core.Path.{◌≡◌, refl, sym, ap, subst, ◌∙◌}
+use mathlib.Core.Path.{◌≡◌, refl, sym, subst, ◌∙◌}
 use mathlib.Core.Bool.{Bool, true, false, cond, ◌&&◌}
 use mathlib.Core.List.{List}
 use Prim.Native.Nat.{ℕ, zero, suc, ◌+◌, ◌*◌, ◌≤◌, ◌<◌}
 use native.Mathlib.Nat.{zero-add, add-zero, add-suc, le_refl}
 use native.Mathlib.Omega.{arith}
-use lib.ListN.{length, get_or, length-set}
+use lib.ListN.{get_or, length-set}
 use lib.Seq.{get_or-set_same, get_or-set_other}
 use lib.Dec.{leb, ltb, eqb}
 use borrow.Author.Tests.{ltb-true, lt-ltb, lt-leb, leb-true, eqb-true, eqb-false}
@@ -13,14 +13,14 @@ use Rattle.number.specs.Number.{entry}
 use Rattle.columnar.specs.Types.{half}
 use Rattle.schema.specs.formats.Code.{between, is_list_view}
 use Rattle.walk.specs.State.{Join, code_of, bytes_of, rows, nulls, top, grown, add_nulls, place}
-use Rattle.walk.specs.Log.{Out, done, wrote, need, next, each}
+use Rattle.walk.specs.Log.{Out, done, each}
 use Rattle.walk.specs.Leaves.{copy_mask}
 use Rattle.walk.specs.Copy.{Walk, list_view_row, copy_list_view, copy_data}
-use Rattle.batch.specs.Stretch.{sum_of, stretches}
+use Rattle.batch.specs.Stretch.{sum_of}
 use Rattle.batch.specs.Batch.{owned, batch_list_view}
 use Rattle.batch.proofs.Ends.{Leaves, leaves_own, leaves_wrote, leaves_need, leaves_next, need_was, need_rest, wrote_rest, next_start_lem, next_rest}
 use Rattle.batch.proofs.Tally.{Counts}
-use Rattle.batch.proofs.Stretches.{and_left, and_right, Cuts, stretches_each}
+use Rattle.batch.proofs.Stretches.{and_left, Cuts, stretches_each}
 use Rattle.batch.proofs.Leaves.{mask_was, mask_goes, mask_zeros}
 
 pub sum_up : (f : ℕ → ℕ) (m n : ℕ) → sum_of f m ≤ sum_of f (m + n)

@@ -1,8 +1,8 @@
 -- The log of a list-view by stretches does to every part what that of its rows one after the other does. Assumes nothing.
-use mathlib.Core.Path.{◌≡◌, refl, sym, ap, subst, ◌∙◌}
-use mathlib.Core.Bool.{Bool, true, false, cond, ◌&&◌}
-use mathlib.Core.List.{List, [], ◌∷◌, ◌++◌}
-use Prim.Native.Nat.{ℕ, zero, suc, ◌+◌, ◌*◌, ◌≤◌, ◌<◌}
+use mathlib.Core.Path.{◌≡◌, refl, ap, ◌∙◌}
+use mathlib.Core.Bool.{Bool, true, ◌&&◌}
+use mathlib.Core.List.{List, [], ◌∷◌}
+use Prim.Native.Nat.{ℕ, suc, ◌+◌, ◌*◌, ◌≤◌, ◌<◌}
 use native.Mathlib.Nat.{zero-add, add-zero, mul-add}
 use native.Mathlib.Omega.{arith}
 use lib.ListN.{length, take, drop}
@@ -14,16 +14,16 @@ use Rattle.columnar.specs.Types.{half}
 use Rattle.utils.specs.Pieces.{pieces, numbers}
 use Rattle.utils.proofs.Pieces.{pieces_same}
 use Rattle.walk.specs.State.{Join, rows, top, place, rows_in}
-use Rattle.walk.specs.Log.{Log, Out, put, wrote, need, next, each}
+use Rattle.walk.specs.Log.{Out, put, wrote, need, next, each}
 use Rattle.walk.specs.Copy.{Walk, list_view_row, copy_list_view}
 use Rattle.batch.specs.Stretch.{sum_of, stretches}
 use Rattle.batch.specs.Batch.{owned, batch_list_view}
-use Rattle.batch.proofs.Ends.{Leaves, leaves_own, leaves_wrote, need_was, need_is, need_rest, wrote_rest}
+use Rattle.batch.proofs.Ends.{Leaves, leaves_own, need_was, need_rest, wrote_rest}
 use Rattle.batch.proofs.Tally.{Counts}
 use Rattle.batch.proofs.Stretches.{and_left, and_right, Cuts, stretches_each}
 use Rattle.batch.proofs.Windows.{span, AllInside}
 use Rattle.batch.proofs.Alike.{Alike, alike_refl, alike_sym, alike_trans, alike_append}
-use Rattle.batch.proofs.StretchLogs.{CutLogs, next_log, stretches_write}
+use Rattle.batch.proofs.StretchLogs.{CutLogs, stretches_write}
 use Rattle.batch.proofs.ListLogs.{numbers_are, rows_write}
 
 module _ (x : Join) (M : ℕ) (K : ℕ → ℕ → Type 0) (below child : Walk) (w i slot : ℕ) (good : ℕ → ℕ → List ℕ → Type 0) (roomy : List ℕ → Type 0)

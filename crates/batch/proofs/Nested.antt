@@ -1,23 +1,22 @@
 -- A list-view that keeps no nulls may be cut where its child may be walked by stretches. Assumes nothing.
-use mathlib.Core.Path.{◌≡◌, refl, sym, ap, subst, ◌∙◌}
+use mathlib.Core.Path.{◌≡◌, refl, ap, subst, ◌∙◌}
 use mathlib.Core.Bool.{Bool, true, false, cond, ◌&&◌}
 use mathlib.Core.List.{List}
 use Prim.Native.Nat.{ℕ, zero, suc, ◌+◌, ◌*◌, ◌≤◌, ◌<◌}
-use native.Mathlib.Nat.{add-zero, add_assoc}
 use native.Mathlib.Omega.{arith}
 use lib.ListN.{length}
-use lib.Dec.{leb, ltb, eqb}
+use lib.Dec.{leb, ltb}
 use borrow.Author.Tests.{leb-true, le-leb, ltb-true, lt-ltb}
 use Rattle.number.specs.Number.{entry}
 use Rattle.columnar.specs.Types.{half}
 use Rattle.schema.specs.formats.Code.{is_list_view}
 use Rattle.refinement.proofs.walk_is_model.Counters.{rows_added, rows_other}
 use Rattle.walk.specs.State.{Join, code_of, keeps_of, bytes_of, rows, grown, add_rows, place, offset_of, far, slot_of, rows_in}
-use Rattle.walk.specs.Log.{Out, done, wrote, need, found, next, each}
+use Rattle.walk.specs.Log.{Out, done, found, next, each}
 use Rattle.walk.specs.Leaves.{copy_mask}
 use Rattle.walk.specs.Copy.{Walk, masked, list_view_row, copy_list_view, copy_data, copy_slots, copy_node}
 use Rattle.batch.specs.Batch.{batch_list_view, batch_data, batch_slots, batch_node}
-use Rattle.batch.proofs.Ends.{Leaves, leaves_own, leaves_done, leaves_wrote, leaves_need, leaves_found, leaves_next, need_was, need_is, need_rest, wrote_rest, found_was, found_is, next_start_lem, next_rest}
+use Rattle.batch.proofs.Ends.{Leaves, leaves_own, leaves_done, leaves_wrote, leaves_need, leaves_found, leaves_next, need_was, need_rest, wrote_rest, found_was, found_is, next_start_lem, next_rest}
 use Rattle.batch.proofs.Tally.{Counts, rows_counters, rows_none, rows_twice, rows_either}
 use Rattle.batch.proofs.Stretches.{and_left, and_right, Cuts, each_counters, each_split}
 use Rattle.batch.proofs.Leaves.{more_bytes}

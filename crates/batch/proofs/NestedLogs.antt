@@ -1,8 +1,8 @@
 -- What stretches ask of a child's logs, for a list-view that keeps no nulls. Assumes nothing.
 use mathlib.Core.Path.{◌≡◌, refl, sym, ap, subst, ◌∙◌}
-use mathlib.Core.Bool.{Bool, true, false, cond, ◌&&◌}
+use mathlib.Core.Bool.{true, cond, ◌&&◌}
 use mathlib.Core.List.{List, [], ◌∷◌, ◌++◌, append-nil, append_assoc}
-use Prim.Native.Nat.{ℕ, zero, suc, ◌+◌, ◌*◌, ◌≤◌, ◌<◌, min}
+use Prim.Native.Nat.{ℕ, zero, suc, ◌+◌, ◌*◌, ◌≤◌, ◌<◌}
 use native.Mathlib.Nat.{zero-add, add-zero, suc-add, suc-mul, mul-le-mul_right, le_trans}
 use native.Mathlib.Omega.{arith}
 use lib.ListN.{length}
@@ -20,14 +20,14 @@ use Rattle.walk.specs.Log.{Log, Out, put, done, wrote, need, found, next, each}
 use Rattle.walk.specs.Copy.{Walk, list_view_row, copy_list_view, copy_slots, copy_node}
 use Rattle.batch.specs.Batch.{batch_list_view, batch_slots, batch_node}
 use Rattle.batch.proofs.Ends.{Leaves, leaves_own, leaves_next, need_is, found_is, next_start_lem, next_rest}
-use Rattle.batch.proofs.Tally.{Counts, rows_counters}
+use Rattle.batch.proofs.Tally.{Counts}
 use Rattle.batch.proofs.Stretches.{Cuts, each_split}
 use Rattle.batch.proofs.LeafNode.{list_view_width}
 use Rattle.batch.proofs.Windows.{span, within, within_append, AllInside}
-use Rattle.batch.proofs.Alike.{Window, Alike, alike_refl, alike_sym, alike_trans, alike_append}
+use Rattle.batch.proofs.Alike.{Window, Alike, alike_refl, alike_append}
 use Rattle.batch.proofs.StretchLogs.{CutLogs, next_log, each_before}
 use Rattle.batch.proofs.ListWrites.{list_write}
-use Rattle.batch.proofs.Nested.{W, at, slots_is, stretches_is, Lies, by_was, kid, start, size, row, item, mid, list_goes, view_was, view_goes, row_was, bare, each_after, row_moved, each_moved, view_cuts}
+use Rattle.batch.proofs.Nested.{at, slots_is, stretches_is, Lies, by_was, kid, start, size, row, item, mid, list_goes, view_was, row_was, bare, each_after, row_moved, view_cuts}
 
 -- the log of m + s rows
 each_split_log : (f : ℕ → List ℕ → Out) (m s r : ℕ) (c d : List ℕ) → Leaves (each f (m + s) r c) d

@@ -1,18 +1,18 @@
 -- The parts of a node that the plan counts, and what they hold. Assumes nothing.
-use mathlib.Core.Path.{◌≡◌, refl, sym, ap, subst, ◌∙◌}
-use mathlib.Core.Bool.{Bool, true, false, cond, not, ◌&&◌}
+use mathlib.Core.Path.{◌≡◌, refl, sym, ap, ◌∙◌}
+use mathlib.Core.Bool.{Bool, true, false, cond, not}
 use mathlib.Core.List.{List}
-use Prim.Native.Nat.{ℕ, zero, suc, ◌+◌, ◌*◌, ◌-◌, ◌≤◌, ◌<◌}
-use native.Mathlib.Nat.{mul-le-mul_left, mul-one}
+use Prim.Native.Nat.{ℕ, ◌+◌, ◌*◌, ◌-◌, ◌≤◌, ◌<◌}
+use native.Mathlib.Nat.{mul-le-mul_left}
 use native.Mathlib.Omega.{arith}
 use lib.Dec.{leb, ltb, eqb}
 use borrow.Author.Tests.{ltb-true, leb-true, lt-ltb, le-leb, leb-false}
 use Rattle.columnar.specs.Test.{every}
-use Rattle.schema.specs.formats.Code.{width_of, between, is_fixed, is_string, is_view, is_list_view}
+use Rattle.schema.specs.formats.Code.{width_of, between, is_fixed, is_string, is_list_view}
 use Rattle.walk.specs.State.{code_of, keeps_of}
 use Rattle.plan.specs.parts.Parts.{nodes_of, copied, buffer_count, validity_parts, buffer_parts, has_part, needed_by, Used}
 use Rattle.plan.proofs.parts.Placed.{every_at}
-use Rattle.refinement.proofs.orders.Buffers.{needed_fixed, needed_offsets, needed_views, needed_starts}
+use Rattle.refinement.proofs.orders.Buffers.{needed_fixed, needed_offsets, needed_views}
 use Rattle.batch.specs.Batch.{is_leaf, owned}
 use Rattle.batch.proofs.Stretches.{and_left, and_right}
 

@@ -1,13 +1,11 @@
 -- Parts that rise are apart. Assumes nothing.
-use mathlib.Core.Path.{◌≡◌, refl, sym, ap, subst, ◌∙◌}
+use mathlib.Core.Path.{◌≡◌, refl, sym, ap, ◌∙◌}
 use mathlib.Core.Bool.{Bool, true, false, cond, ◌&&◌}
 use mathlib.Core.List.{List}
 use Prim.Native.Nat.{ℕ, zero, suc, ◌+◌, ◌≤◌, ◌<◌}
-use native.Mathlib.Nat.{zero-add}
 use native.Mathlib.Omega.{arith}
 use lib.Dec.{leb, ltb, eqb}
 use borrow.Author.Tests.{leb-true, ltb-true, ltb-false, eqb-true, eqb-false}
-use Rattle.columnar.specs.Test.{only_if}
 use Rattle.walk.specs.Log.{start_of}
 use Rattle.plan.specs.parts.Parts.{nodes_of, has_part, size_of, parts_within, Used}
 use Rattle.plan.proofs.parts.Placed.{used_few, within_used}

@@ -1,20 +1,20 @@
 -- Bytes and bits written into a room, byte by byte; a write inside a part is a write of the part. Assumes nothing.
 use mathlib.Core.Path.{◌≡◌, refl, sym, ap, ◌∙◌}
-use mathlib.Core.Bool.{Bool, true, false, cond}
+use mathlib.Core.Bool.{Bool, true, false}
 use mathlib.Core.List.{List, ◌++◌}
-use Prim.Native.Nat.{ℕ, zero, suc, ◌+◌, ◌*◌, ◌-◌, ◌/◌, ◌%◌, ◌<◌, ◌≤◌}
-use native.Mathlib.Nat.{add-zero, add_assoc}
+use Prim.Native.Nat.{ℕ, zero, suc, ◌+◌, ◌*◌, ◌-◌, ◌<◌, ◌≤◌}
+use native.Mathlib.Nat.{add-zero}
 use native.Mathlib.Omega.{arith}
 use lib.ListN.{length, take, drop, get_or, replicate, length-append, length-drop, length-replicate}
 use lib.Seq.{get_or-take, get_or-drop, ext_get_or, length-take-le}
-use lib.Dec.{leb, ltb}
+use lib.Dec.{ltb}
 use borrow.Author.Tests.{ltb-true, ltb-false}
 use Rattle.number.specs.Number.{splice}
 use Rattle.number.proofs.Laws.{length_splice}
 use Rattle.utils.proofs.Pieces.{get_d_splice}
 use Rattle.bits.specs.Bits.{bits, pad, put_bits}
-use Rattle.bits.proofs.Laws.{Below, below_splice, below_take, below_drop, length_bits, bits_splice, take_bits, drop_bits}
-use Rattle.bits.proofs.Puts.{splice_take, splice_drop, bits_put, below_put, length_put, same_bits, pad_fits}
+use Rattle.bits.proofs.Laws.{Below, below_splice, length_bits, bits_splice, take_bits, drop_bits}
+use Rattle.bits.proofs.Puts.{splice_take, splice_drop, bits_put, below_put, same_bits, pad_fits}
 
 module _ (at : ℕ) (bs : List ℕ) (s : List ℕ) (fits : at + length bs ≤ length s) where
   pub splice_low : (p : ℕ) → p < at → get_or (splice at bs s) p 0 ≡ get_or s p 0

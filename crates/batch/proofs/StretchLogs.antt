@@ -1,7 +1,7 @@
 -- The log of stretches does to every part what the log of one row after the other does. Assumes nothing.
-use mathlib.Core.Path.{◌≡◌, refl, sym, ap, subst, ◌∙◌}
+use mathlib.Core.Path.{◌≡◌, refl, sym, ap, subst}
 use mathlib.Core.Bool.{Bool, true, false, cond, ◌&&◌}
-use mathlib.Core.List.{List, [], ◌∷◌, ◌++◌, append_assoc, append-nil}
+use mathlib.Core.List.{List, [], ◌++◌, append_assoc, append-nil}
 use Prim.Native.Nat.{ℕ, zero, suc, ◌+◌, ◌≤◌, ◌<◌}
 use Rattle.walk.specs.State.{add_rows}
 use native.Mathlib.Omega.{arith}
@@ -9,11 +9,11 @@ use lib.Dec.{leb, eqb}
 use borrow.Author.Tests.{leb-true, eqb-true}
 use Rattle.walk.specs.Log.{Log, Out, next, each, done}
 use Rattle.batch.specs.Stretch.{stretch, stretches}
-use Rattle.batch.proofs.Ends.{Leaves, leaves_own, leaves_next, leaves_done, next_first, next_last, next_start_lem, next_rest, next_is}
+use Rattle.batch.proofs.Ends.{Leaves, leaves_own, next_first, next_last, next_start_lem, next_rest, next_is}
 use Rattle.batch.proofs.Tally.{Counts}
-use Rattle.batch.proofs.Stretches.{and_left, and_right, Cuts, row, Meets, stretch_meets}
+use Rattle.batch.proofs.Stretches.{and_left, and_right, Cuts, Meets, stretch_meets}
 use Rattle.batch.proofs.Windows.{AllInside, within}
-use Rattle.batch.proofs.Alike.{Window, Alike, alike_refl, alike_is, alike_sym, alike_trans, alike_append}
+use Rattle.batch.proofs.Alike.{Window, Alike, alike_refl, alike_sym, alike_trans, alike_append}
 
 pub next_log : {o : Out} (k : List ℕ → Out) {c : List ℕ} → Leaves o c → (next o k).log ≡ o.log ++ (k c).log
 next_log k p = ap (λ q. q.log) (next_is k p)

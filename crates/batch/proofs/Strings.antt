@@ -1,20 +1,19 @@
 -- Byte strings whose offsets never fall may be cut. Assumes nothing.
-use mathlib.Core.Path.{◌≡◌, refl, sym, ap, subst, ◌∙◌}
-use mathlib.Core.Bool.{Bool, true, false, cond, ◌&&◌}
+use mathlib.Core.Path.{◌≡◌, refl, sym, ap, ◌∙◌}
+use mathlib.Core.Bool.{Bool, true, false, cond}
 use mathlib.Core.List.{List}
-use Prim.Native.Nat.{ℕ, zero, suc, ◌+◌, ◌*◌, ◌-◌, ◌≤◌, ◌<◌}
+use Prim.Native.Nat.{ℕ, zero, suc, ◌+◌, ◌*◌, ◌-◌, ◌≤◌}
 use native.Mathlib.Nat.{add-zero, add-suc, mul-add, mul-le-mul_left, le_refl}
 use native.Mathlib.Omega.{arith}
-use lib.ListN.{length, take, drop}
+use lib.ListN.{length, drop}
 use lib.Dec.{leb, ltb, eqb}
-use borrow.Author.Tests.{leb-true, le-leb, ltb-false, le-ltb, eqb-true, eqb-false, eq-eqb, ne_eqb}
+use borrow.Author.Tests.{leb-true, le-leb, ltb-false, le-ltb, eqb-true, eqb-false, ne_eqb}
 use Rattle.number.specs.Number.{number, entry}
-use Rattle.utils.specs.Offsets.{largest, moved, moved_offsets}
+use Rattle.utils.specs.Offsets.{largest, moved}
 use Rattle.utils.specs.Extension.{extended, over_at}
-use Rattle.utils.specs.declared.Extended.{Extended}
-use Rattle.utils.specs.declared.Extended.TheVariants.{Fits, Over, Falls}
+use Rattle.utils.specs.declared.Extended.TheVariants.{Fits, Falls}
 use Rattle.walk.specs.State.{Join, bytes, top, set_bytes, place, rows_in}
-use Rattle.walk.specs.Log.{Out, put, fail, done, wrote, need, next}
+use Rattle.walk.specs.Log.{fail}
 use Rattle.walk.specs.Leaves.{put_string, put_extended, copy_string}
 use Rattle.batch.specs.Stretch.{never_falls}
 use Rattle.batch.proofs.Ends.{Leaves, leaves_done, leaves_wrote, leaves_need, leaves_next, need_was, need_is}

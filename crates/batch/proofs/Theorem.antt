@@ -1,39 +1,32 @@
 -- THEOREM 2: where the parts rise and hold their bytes, the walk by stretches leaves the room that the walk of a copy leaves. Assumes nothing.
-use mathlib.Core.Path.{◌≡◌, refl, sym, ap, subst, ◌∙◌}
-use mathlib.Core.Bool.{Bool, true, false, cond, not, ◌&&◌}
-use mathlib.Core.List.{List, [], ◌∷◌, ◌++◌, append-nil}
-use Prim.Native.Nat.{ℕ, zero, suc, ◌+◌, ◌*◌, ◌≤◌, ◌<◌, min}
-use native.Mathlib.Nat.{mul-le-mul_left}
+use mathlib.Core.Path.{◌≡◌, refl, sym, ap, ◌∙◌}
+use mathlib.Core.Bool.{Bool, true, false, cond}
+use mathlib.Core.List.{List, append-nil}
+use Prim.Native.Nat.{ℕ, suc, ◌+◌, ◌*◌, ◌≤◌, ◌<◌}
 use native.Mathlib.Omega.{arith}
-use lib.ListN.{length, get_or}
+use lib.ListN.{length}
 use lib.Dec.{leb, ltb, eqb}
-use borrow.Author.Tests.{eqb-true, ltb-true, lt-ltb, leb-true}
-use Rattle.number.specs.Number.{entry}
+use borrow.Author.Tests.{eqb-true, ltb-true, leb-true}
 use Rattle.bits.proofs.Laws.{Below}
-use Rattle.schema.specs.formats.Code.{between, is_string, is_list_view}
-use Rattle.walk.specs.State.{Join, code_of, bytes_of, keeps_of, rows, bytes, top, grown, add_nulls, add_rows, place, far, slot_of}
-use Rattle.walk.specs.Log.{Log, Out, mask, fail, done, need, found, next, each, apply}
+use Rattle.schema.specs.formats.Code.{is_list_view}
+use Rattle.walk.specs.State.{Join, code_of, bytes_of, rows, bytes, top, grown, add_rows, far, slot_of}
+use Rattle.walk.specs.Log.{Log, Out, fail, done, found, next, apply}
 use Rattle.walk.specs.Leaves.{copy_mask}
-use Rattle.walk.specs.Copy.{Walk, masked, copy_list_view, copy_dense, copy_data, copy_slots, copy_node, copy_walk}
-use Rattle.plan.specs.parts.Parts.{needed, needed_by, size_of, parts_hold, parts_within, Used}
-use Rattle.plan.proofs.parts.Placed.{within_used, used_holds, bits_held}
-use Rattle.refinement.proofs.walk_is_model.Counters.{rows_added, rows_other, bytes_of_rows, rows_of_nulls}
-use Rattle.refinement.proofs.orders.Buffers.{needed_chars, needed_starts, needed_sizes}
-use Rattle.batch.specs.Stretch.{stretches}
+use Rattle.walk.specs.Copy.{Walk, masked, copy_dense, copy_data, copy_slots, copy_node, copy_walk}
+use Rattle.plan.specs.parts.Parts.{needed_by, size_of, parts_hold, parts_within, Used}
+use Rattle.plan.proofs.parts.Placed.{used_holds}
+use Rattle.refinement.proofs.walk_is_model.Counters.{rows_added, rows_other, bytes_of_rows}
 use Rattle.batch.specs.Rise.{parts_rise}
 use Rattle.batch.specs.Batch.{is_leaf, owned, batch_leaf, batch_list_view, batch_data, batch_slots, batch_node, batch_below, batch_walk_of}
 use Rattle.batch.proofs.Ends.{Leaves, leaves_own, leaves_done, need_was, need_is, need_rest, found_was, found_is, next_start_lem, next_rest}
 use Rattle.batch.proofs.Tally.{Counts}
-use Rattle.batch.proofs.Stretches.{and_left, and_right, Cuts, stretches_each}
-use Rattle.batch.proofs.Leaves.{mask_fits, mask_zeros, mask_was, mask_goes}
-use Rattle.batch.proofs.Contents.{keeps, bits_of, mask_log, bits_long, bits_below, DataLogs}
-use Rattle.batch.proofs.LeafNode.{list_view_width}
+use Rattle.batch.proofs.Stretches.{and_right}
 use Rattle.batch.proofs.LeafLogs.{Roomy}
 use Rattle.batch.proofs.Answers.{dense_data, data_same}
-use Rattle.batch.proofs.Windows.{Keys, Room, AllInside, same_room}
-use Rattle.batch.proofs.Alike.{Window, Alike, alike_refl, alike_append, lays, lays_inside}
-use Rattle.batch.proofs.StretchLogs.{CutLogs, next_log}
-use Rattle.batch.proofs.Owned.{one_buffer, string_buffers, list_buffers, list_width_some, byte_a_row, own_node, used_one, used_two, used_bits}
+use Rattle.batch.proofs.Windows.{same_room}
+use Rattle.batch.proofs.Alike.{Alike}
+use Rattle.batch.proofs.StretchLogs.{next_log}
+use Rattle.batch.proofs.Owned.{used_one, used_two}
 use Rattle.batch.proofs.Rising.{rise_keys}
 use Rattle.batch.specs.Dense.{batch_dense}
 use Rattle.batch.proofs.DenseWhole.{Tests, tested, own_rows, end_counters, dense_write}

@@ -1,20 +1,19 @@
 -- A list-view node by stretches writes what it writes in a copy, part by part. Assumes nothing.
-use mathlib.Core.Path.{◌≡◌, refl, sym, ap, subst, ◌∙◌}
-use mathlib.Core.Bool.{Bool, true, false, cond, not, ◌&&◌}
-use mathlib.Core.List.{List, [], ◌∷◌, ◌++◌, append-nil}
-use Prim.Native.Nat.{ℕ, zero, suc, ◌+◌, ◌*◌, ◌≤◌, ◌<◌, min}
+use mathlib.Core.Path.{◌≡◌, sym, ap, ◌∙◌}
+use mathlib.Core.Bool.{true}
+use mathlib.Core.List.{List, append-nil}
+use Prim.Native.Nat.{ℕ, suc, ◌+◌, ◌*◌, ◌≤◌, ◌<◌}
 use native.Mathlib.Nat.{mul-le-mul_left}
 use native.Mathlib.Omega.{arith}
-use lib.ListN.{length, get_or}
-use lib.Dec.{leb, ltb, eqb}
-use borrow.Author.Tests.{ltb-true, lt-ltb, leb-true}
+use lib.Dec.{leb}
+use borrow.Author.Tests.{lt-ltb, leb-true}
 use Rattle.number.specs.Number.{entry}
 use Rattle.bits.proofs.Laws.{Below}
 use Rattle.schema.specs.formats.Code.{is_list_view}
 use Rattle.walk.specs.State.{Join, code_of, bytes_of, rows, bytes, top, grown, add_rows, place}
-use Rattle.walk.specs.Log.{Log, Out, mask, done, next, each}
+use Rattle.walk.specs.Log.{Log, Out, mask, done, next}
 use Rattle.walk.specs.Leaves.{copy_mask}
-use Rattle.walk.specs.Copy.{Walk, masked, copy_list_view, copy_data, copy_slots, copy_node, copy_walk}
+use Rattle.walk.specs.Copy.{Walk, copy_list_view, copy_data, copy_slots, copy_walk}
 use Rattle.plan.specs.parts.Parts.{needed_by, size_of, parts_hold, parts_within, Used}
 use Rattle.plan.proofs.parts.Placed.{used_holds, bits_held}
 use Rattle.refinement.proofs.walk_is_model.Counters.{rows_added, rows_of_nulls}
@@ -31,10 +30,9 @@ use Rattle.batch.proofs.ListViews.{mask_counters, list_data}
 use Rattle.batch.proofs.Chains.{Chain, list_shows, chain_was}
 use Rattle.batch.proofs.ChainLogs.{in_room_lem, Logging, chain_logs}
 use Rattle.batch.proofs.Answers.{data_same}
-use Rattle.batch.proofs.Windows.{AllInside}
 use Rattle.batch.proofs.Alike.{Alike, alike_refl, alike_append, lays, lays_inside}
-use Rattle.batch.proofs.StretchLogs.{CutLogs, next_log}
-use Rattle.batch.proofs.ListWrites.{Tests, tested, list_write}
+use Rattle.batch.proofs.StretchLogs.{next_log}
+use Rattle.batch.proofs.ListWrites.{tested, list_write}
 use Rattle.batch.proofs.Owned.{list_buffers, list_width_some, used_one, used_two, used_bits}
 
 module _ (x : Join) (depth M : ℕ) (body : Below 256 x.body) (less : M < top) (inside : parts_within x.plan x.parts M ≡ true) where

@@ -1,6 +1,6 @@
 -- An order walked by stretches, for list-views, also of list-views, down to a node without children, and for dense unions of such nodes; 12 where it does not
 -- apply, which says nothing of the order: `copyWalk` stays what an order is. Assumes nothing.
-use Rattle.std.specs.Prelude.{Bool, true, false, cond, ◌&&◌, List, ℕ, zero, suc, ◌+◌, ◌*◌, take, drop, ltb, eqb}
+use Rattle.std.specs.Prelude.{Bool, true, cond, ◌&&◌, List, ℕ, zero, suc, ◌+◌, ◌*◌, take, drop, ltb, eqb}
 use Rattle.number.specs.Number.{entry}
 use Rattle.columnar.specs.Types.{half}
 use Rattle.schema.specs.formats.Code.{between, is_string, is_list_view}

@@ -1,6 +1,6 @@
 -- A dense union by stretches: the rows of each child whose positions follow one another, child after child.
 -- Assumes nothing.
-use Rattle.std.specs.Prelude.{Bool, true, false, cond, ◌&&◌, List, ℕ, zero, suc, ◌+◌, ◌*◌, take, drop, ltb, eqb}
+use Rattle.std.specs.Prelude.{cond, ◌&&◌, List, ℕ, zero, suc, ◌+◌, ◌*◌, take, drop, ltb, eqb}
 use Rattle.columnar.specs.Types.{half}
 use Rattle.columnar.specs.Test.{every}
 use Rattle.utils.specs.Pieces.{numbers}

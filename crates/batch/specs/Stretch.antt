@@ -1,5 +1,5 @@
 -- Rows of a child that follow one another, walked together: a stretch. Assumes nothing.
-use Rattle.std.specs.Prelude.{Bool, true, false, cond, ◌&&◌, List, ℕ, zero, suc, ◌+◌, ◌*◌, leb, eqb}
+use Rattle.std.specs.Prelude.{Bool, true, cond, ◌&&◌, List, ℕ, zero, suc, ◌+◌, leb, eqb}
 use Rattle.number.specs.Number.{entry}
 use Rattle.walk.specs.Log.{Out, next}
 

@@ -28,12 +28,10 @@ fn flat_below(plan: &[u64]) -> bool
     ensures { result ≡ flat_below (was plan) }
 {
     let end = plan_words::end_of(plan, 0);
-    let mut k: usize = 1;
-    while k < end {
+    for k in 1..end {
         if !is_flat(plan, k) {
             return false;
         }
-        k += 1;
     }
     true
 }
@@ -53,13 +51,11 @@ fn is_nested(plan: &[u64], k: usize) -> bool
 fn is_listed(plan: &[u64]) -> bool
     ensures { result ≡ is_listed (was plan) 7 0 }
 {
-    let mut k: usize = 0;
-    while k < 7 {
+    for k in 0..7 {
         if !is_nested(plan, k) {
             return false;
         }
-        k += 1;
-        if is_flat(plan, k) {
+        if is_flat(plan, k + 1) {
             return true;
         }
     }

@@ -36,8 +36,7 @@ fn taken_chars(
     ensures { (result ≡ top → ⊥) → ((q : ℕ) → q < n → Rising v (was body) at most (offset + taken_from (was homes) (was body) ids positions slot k q) (taken_of (was homes) (was body) ids slot k q)) × (result ≡ sum_of (λ q. chars_of v (was body) at (offset + taken_from (was homes) (was body) ids positions slot k q) (taken_of (was homes) (was body) ids slot k q)) n) }
 {
     let mut sum: u64 = 0;
-    let mut r: u64 = 0;
-    while r < n {
+    for r in 0..n {
         let a = homes::start_at(homes, body, ids, positions, slot + r, k);
         let m = homes::size_at(homes, body, ids, slot + r, k);
         let d = text_rows::chars_of(body, at, v, offset + a, m, most);
@@ -45,7 +44,6 @@ fn taken_chars(
             return u64::MAX;
         }
         sum = plan_words::grow(sum, d);
-        r += 1;
     }
     sum
 }

@@ -1,4 +1,4 @@
-// A dense union's child of byte strings, by stretches.
+// A dense union's child of numbers or byte strings, by stretches.
 ghost use Rattle.std.specs.Prelude.{◌≡◌, true, cond, List, ℕ, ◌+◌, ◌*◌, ◌<◌, ◌≤◌, ◌^◌, length};
 ghost use Rattle.clauses.specs.Slices.{was};
 ghost use Rattle.walk.specs.Log.{Out};
@@ -8,7 +8,8 @@ ghost use Rattle.batch.specs.batch_walk.Plain.{is_text};
 ghost use Rattle.batch.specs.batch_walk.Side.{furthest_of};
 ghost use Rattle.batch.specs.batch_walk.Rows.{taken_from, taken_of, taken_stretches};
 
-use crate::{dense_rows, homes, texts};
+use crate::flat_child::{FlatChild, TextChild};
+use crate::{dense_rows, homes};
 use nested_rows::lookups;
 use walk::plan_words;
 
@@ -23,7 +24,7 @@ fn if_whole(whole: bool, v: u64) -> u64
 }
 
 // The rows of child k: all `total` from `begin` on if they are whole, else its stretches.
-fn copy_each(
+pub fn copy_each<C: FlatChild>(
     plan: &[u64],
     parts: &[u64],
     lengths: &[u64],
@@ -43,7 +44,7 @@ fn copy_each(
     begin: u64,
     total: u64,
 ) -> u8
-    requires first_bound { (first < 2 ^ 32) × (k < 32) × (is_text plan.now k ≡ true) }
+    requires first_bound { (first < 2 ^ 32) × (k < 32) × (C.holds plan.now k ≡ true) }
     requires n_in_bounds { (ids + (slot + n) ≤ length body.now) × (positions + 4 * (slot + n) ≤ length body.now) × (slot + n < 2 ^ 63) }
     requires total_le_n { total ≤ n }
     requires c_value { whole ≡ true → (walk : ℕ → ℕ → List ℕ → Out) (c : List ℕ) → stretches walk (taken_from homes.now body.now ids positions slot k) (taken_of homes.now body.now ids slot k) n c ≡ walk begin total c }
@@ -55,7 +56,7 @@ fn copy_each(
     let mut r = if_whole(whole, n);
     while r <= n {
         let t = homes::advance(homes, body, ids, positions, slot, n, k, r, a, m);
-        let g = texts::copy_stretch(
+        let g = C::copy_stretch(
             plan, parts, lengths, places, body, counters, room, write, first, k, w, t.a, t.m,
         );
         if g != 0 {
@@ -113,7 +114,7 @@ pub fn copy_texts(
             }
         }
     }
-    copy_each(
+    copy_each::<TextChild>(
         plan, parts, lengths, places, body, counters, room, write, first, homes, ids, positions,
         slot, n, k, whole, begin, total,
     )

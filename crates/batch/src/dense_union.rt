@@ -14,54 +14,11 @@ ghost use Rattle.batch.specs.batch_walk.Side.{furthest_of};
 ghost use Rattle.batch.specs.batch_walk.Fall.{Homed, home_by, Fallen};
 ghost use Rattle.batch.specs.batch_walk.Rows.{taken_from, taken_of, taken_stretches};
 
+use crate::flat_child::NumberChild;
 use crate::{dense_texts, gather, homes, list_view, numbers, survey, texts};
 use array_data::lent_tables;
 use nested_rows::lookups;
 use walk::plan_words;
-
-// The stretches of child k.
-fn copy_stretches(
-    plan: &[u64],
-    parts: &[u64],
-    lengths: &[u64],
-    places: &[u64],
-    body: &[u8],
-    counters: &mut [u64; plan_words::COUNTERS],
-    room: &mut [u8],
-    write: bool,
-    first: usize,
-    homes: &[u8; 256],
-    ids: u64,
-    positions: u64,
-    slot: u64,
-    n: u64,
-    k: usize,
-) -> u8
-    requires first_bound { (first < 2 ^ 32) × (k < 32) × (is_plain plan.now k ≡ true) }
-    requires n_in_bounds { (ids + (slot + n) ≤ length body.now) × (positions + 4 * (slot + n) ≤ length body.now) × (slot + n < 2 ^ 63) }
-    ensures { (source : ℕ) → Walks plan parts write (taken_stretches (lent_join plan parts lengths places body first source) (was homes) ids positions slot k n) counters room result }
-{
-    let w = lookups::width_at(plan, k);
-    let mut a: u64 = 0;
-    let mut m: u64 = 0;
-    let mut r: u64 = 0;
-    while r <= n {
-        let t = homes::advance(homes, body, ids, positions, slot, n, k, r, a, m);
-        let g = numbers::copy_stretch(
-            plan, parts, lengths, places, body, counters, room, write, first, k, w, t.a, t.m,
-        );
-        if g != 0 {
-            return g;
-        }
-        if t.next == n {
-            return 0;
-        }
-        a = homes::start_at(homes, body, ids, positions, slot + t.next, k);
-        m = homes::size_at(homes, body, ids, slot + t.next, k);
-        r = t.next + 1;
-    }
-    12
-}
 
 // Whether the walk only tries, and the rows of child k before row `end` stand in the body: then no stretch is refused.
 fn all_reached(
@@ -134,9 +91,9 @@ fn copy_child(
         plan_words::add_rows(counters, k, total);
         return 0;
     }
-    copy_stretches(
+    dense_texts::copy_each::<NumberChild>(
         plan, parts, lengths, places, body, counters, room, write, first, homes, ids, positions,
-        slot, n, k,
+        slot, n, k, false, 0, 0,
     )
 }
 
@@ -170,8 +127,7 @@ fn copy_children(
 {
     let last = plan_words::end_of(plan, i);
     let mut k = i + 1;
-    let mut t: usize = 0;
-    while t < 32 {
+    for t in 0..32usize {
         if last <= k {
             return 0;
         }
@@ -190,7 +146,6 @@ fn copy_children(
             return g;
         }
         k = next;
-        t += 1;
     }
     0
 }

@@ -12,7 +12,7 @@ ghost use Rattle.batch.specs.batch_walk.Side.{furthest_of};
 ghost use Rattle.batch.specs.batch_walk.Fall.{home_by};
 ghost use Rattle.batch.specs.batch_walk.Rows.{taken_from, taken_of, taken_stretches};
 
-use crate::{homes, numbers};
+use crate::{homes, numbers, short_copy};
 use array_data::lent_tables;
 use nested_rows::lookups;
 use walk::plan_words;
@@ -23,11 +23,11 @@ fn copy_entry(room: &mut [u8], to: usize, body: &[u8], from: usize, w: u64)
     ensures { room.new ≡ splice to (take w (drop from (was body))) room.old }
 {
     if w == 4 {
-        number::write_u32(room, to, number::read_u32(body, from));
+        short_copy::copy_number::<u32>(room, to, body, from);
         return;
     }
     if w == 8 {
-        number::write_u64(room, to, number::read_u64(body, from));
+        short_copy::copy_number::<u64>(room, to, body, from);
         return;
     }
     number::copy::copy_bytes(room, to, body, from, w as usize);
@@ -79,18 +79,9 @@ fn copy_taken(
     ensures { room.new ≡ splice to (pieces (λ r. take (w * taken_of (was homes) (was body) ids slot k r) (drop (at + w * taken_from (was homes) (was body) ids positions slot k r) (was body))) n) room.old }
 {
     let mut to = to;
-    let mut r: u64 = 0;
-    while r < n {
+    for r in 0..n {
         to += copy_row(room, to, body, at, w, homes, ids, positions, slot + r, k);
-        r += 1;
     }
-}
-
-// The array, whose length is known of what a call returns.
-pub fn known(counters: [u64; plan_words::COUNTERS]) -> [u64; plan_words::COUNTERS]
-    ensures { result ≡ counters }
-{
-    counters
 }
 
 // Writes the rows of child k, `total` of them, which reach to `end`, where they stand in the body and the room has them; else false.
@@ -123,8 +114,7 @@ pub fn put_taken(
     if !numbers::reaches(lengths, places, body, first, k, w, end) {
         return false;
     }
-    let counters = known(*counters);
-    let o = plan_words::scale(plan_words::rows_of(&counters, k), w);
+    let o = plan_words::scale(plan_words::rows_of(counters, k), w);
     match plan_words::target(
         plan,
         parts,

@@ -10,6 +10,7 @@ ghost use Rattle.batch.specs.batch_walk.Rows.{taken_from, taken_of};
 
 use crate::side;
 use crate::side::Stretch;
+use number::Unsigned;
 use walk::plan_words;
 
 // The child of an id that had `had`, with child k.
@@ -30,15 +31,13 @@ pub fn homes_of(plan: &[u64], i: usize) -> [u8; 256]
     let mut homes = [32u8; 256];
     let end = plan_words::end_of(plan, i);
     let mut k = i + 1;
-    let mut t: usize = 0;
-    while t < 32 {
+    for t in 0..32usize {
         if end <= k {
             return homes;
         }
         let id = plan_words::id_of(plan, k) as usize;
         homes[id] = first_of(homes[id], k as u8);
         k = plan_words::end_of(plan, k);
-        t += 1;
     }
     homes
 }
@@ -48,7 +47,7 @@ pub fn home_at(homes: &[u8; 256], body: &[u8], q: u64) -> u8
     requires { q < length body.now }
     ensures { result ≡ home_by (was homes) (was body) q }
 {
-    let id = number::read_u8(body, q as usize);
+    let id = u8::read(body, q as usize);
     homes[id as usize]
 }
 
@@ -57,7 +56,7 @@ pub fn position_at(body: &[u8], at: u64, q: u64) -> u32
     requires { at + 4 * (q + 1) ≤ length body.now }
     ensures { result ≡ entry 4 (was body) at q }
 {
-    number::read_u32(body, (at as usize) + 4 * (q as usize))
+    u32::read(body, (at as usize) + 4 * (q as usize))
 }
 
 // Where child k takes row q from; 0 if it does not.
@@ -102,8 +101,7 @@ pub fn advance(
 {
     let mut b = a;
     let mut p = m;
-    let mut r = from;
-    while r < n {
+    for r in from..n {
         let start = start_at(homes, body, ids, positions, slot + r, k);
         let size = size_at(homes, body, ids, slot + r, k);
         let side = side::side_of(b, p, start, size);
@@ -116,11 +114,10 @@ pub fn advance(
         }
         b = side::next_start(side, b, start);
         p = side::next_size(side, p, size);
-        r += 1;
     }
     Stretch {
         a: b,
         m: p,
-        next: r,
+        next: n,
     }
 }

@@ -6,6 +6,7 @@ pub mod batch_walk;
 mod dense_rows;
 mod dense_texts;
 mod dense_union;
+mod flat_child;
 mod gather;
 mod homes;
 mod list_view;

@@ -14,6 +14,7 @@ ghost use Rattle.batch.specs.batch_walk.Head.{Named, Rests, rows_of};
 ghost use Rattle.batch.specs.batch_walk.Side.{furthest_of};
 ghost use Rattle.batch.specs.batch_walk.Rows.{list_stretches};
 
+use crate::flat_child::NumberChild;
 use crate::{listed, numbers, side, sizes, text_lists, texts};
 use array_data::lent_tables;
 use nested_rows::lookups;
@@ -42,78 +43,6 @@ fn has_child(plan: &[u64], i: usize) -> bool
         return false;
     }
     is_owned(plan, i + 1)
-}
-
-// The stretches of a child of numbers, for offsets and sizes of w bytes.
-fn copy_number_stretches(
-    plan: &[u64],
-    parts: &[u64],
-    lengths: &[u64],
-    places: &[u64],
-    body: &[u8],
-    counters: &mut [u64; plan_words::COUNTERS],
-    room: &mut [u8],
-    write: bool,
-    first: usize,
-    i: usize,
-    w: u64,
-    slot: u64,
-    n: u64,
-) -> u8
-    requires first_bound { (first < 2 ^ 32) × (i + 1 < 32) × (slot + n < 2 ^ 63) × (is_plain plan.now (suc i) ≡ true) }
-    requires n_in_bounds { (place (join [] [] [] places.now [] first 0) i 3 + w * (slot + n) ≤ length body.now) × (place (join [] [] [] places.now [] first 0) i 5 + w * (slot + n) ≤ length body.now) }
-    requires n_bound { sum_of (λ q. entry w body.now (place (join [] [] [] places.now [] first 0) i 5) (slot + q)) n < 2 ^ 63 }
-    requires w_value { (w ≡ 4 → ⊥) → w ≡ 8 }
-    ensures { (source : ℕ) → let j = lent_join plan parts lengths places body first source in Walks plan parts write (list_stretches j (batch_leaf j) w i slot n) counters room result }
-{
-    let offsets = lent_tables::place(places, first + i, 3);
-    let sizes = lent_tables::place(places, first + i, 5);
-    let v = lookups::width_at(plan, i + 1);
-    let mut a: u64 = 0;
-    let mut m: u64 = 0;
-    let mut r: u64 = 0;
-    while r < n {
-        let t = side::advance(body, offsets, sizes, w, slot, n, r, a, m);
-        let g = numbers::copy_stretch(
-            plan,
-            parts,
-            lengths,
-            places,
-            body,
-            counters,
-            room,
-            write,
-            first,
-            i + 1,
-            v,
-            t.a,
-            t.m,
-        );
-        if g != 0 {
-            return g;
-        }
-        if t.next == n {
-            return 0;
-        }
-        a = lookups::entry_at(body, offsets, w, slot + t.next);
-        m = lookups::entry_at(body, sizes, w, slot + t.next);
-        r = t.next + 1;
-    }
-    numbers::copy_stretch(
-        plan,
-        parts,
-        lengths,
-        places,
-        body,
-        counters,
-        room,
-        write,
-        first,
-        i + 1,
-        v,
-        a,
-        m,
-    )
 }
 
 // Whether the walk only tries, and all rows that the n offsets and sizes name stand in the body: then no stretch is refused.
@@ -195,7 +124,7 @@ fn copy_numbers(
         plan_words::add_rows(counters, i + 1, total);
         return 0;
     }
-    copy_number_stretches(
+    text_lists::copy_each::<NumberChild>(
         plan, parts, lengths, places, body, counters, room, write, first, i, w, slot, n,
     )
 }

@@ -10,7 +10,7 @@ ghost use Rattle.batch.specs.Stretch.{sum_of};
 ghost use Rattle.batch.specs.batch_walk.Plain.{is_plain};
 ghost use Rattle.batch.specs.batch_walk.Rows.{named_stretches};
 
-use crate::{gather, numbers, sizes};
+use crate::{numbers, sizes};
 use array_data::lent_tables;
 use nested_rows::lookups;
 use walk::plan_words;
@@ -32,27 +32,15 @@ fn break_at(body: &[u8], offsets: u64, sizes: u64, w: u64, slot: u64, n: u64, r:
     1
 }
 
-// How many rows are looked at.
-fn first_of(n: u64) -> u64
-    ensures { (result ≤ n) × (result ≤ 16) }
-{
-    if n < 16 {
-        return n;
-    }
-    16
-}
-
-// Whether most of the first rows do not start where the one before ends: which way is taken hangs on it, not what is written.
+// Whether most of the first 16 rows do not start where the one before ends: which way is taken hangs on it, not what is written.
 pub fn is_shuffled(body: &[u8], offsets: u64, sizes: u64, w: u64, slot: u64, n: u64) -> bool
     requires n_in_bounds { (offsets + w * (slot + n) ≤ length body.now) × (sizes + w * (slot + n) ≤ length body.now) × (slot + n < 2 ^ 63) }
     requires w_value { (w ≡ 4 → ⊥) → w ≡ 8 }
 {
-    let last = first_of(n);
+    let last = n.min(16);
     let mut breaks: u64 = 0;
-    let mut r: u64 = 0;
-    while r < last {
+    for r in 0..last {
         breaks += break_at(body, offsets, sizes, w, slot, n, r);
-        r += 1;
     }
     last < 2 * breaks
 }
@@ -76,14 +64,12 @@ fn copy_listed(
     ensures { room.new ≡ splice to (pieces (λ r. take (v * entry w (was body) sizes (slot + r)) (drop (at + v * entry w (was body) offsets (slot + r)) (was body))) n) room.old }
 {
     let mut to = to;
-    let mut r: u64 = 0;
-    while r < n {
+    for r in 0..n {
         let start = lookups::entry_at(body, offsets, w, slot + r);
         let size = v * lookups::entry_at(body, sizes, w, slot + r);
         let from = at + v * start;
         numbers::copy_few(room, to, body, from as usize, size as usize);
         to += size as usize;
-        r += 1;
     }
 }
 
@@ -121,8 +107,7 @@ pub fn put_listed(
     if !numbers::reaches(lengths, places, body, first, k, v, end) {
         return false;
     }
-    let counters = gather::known(*counters);
-    let o = plan_words::scale(plan_words::rows_of(&counters, k), v);
+    let o = plan_words::scale(plan_words::rows_of(counters, k), v);
     match plan_words::target(
         plan,
         parts,

@@ -9,6 +9,7 @@ ghost use Rattle.leaf_walk.specs.Walks.{lent_join, Walks};
 ghost use Rattle.batch.specs.Batch.{batch_leaf};
 ghost use Rattle.batch.specs.batch_walk.Plain.{is_plain, reached};
 
+use crate::short_copy;
 use array_data::lent_tables;
 use nested_rows::lookups;
 use walk::plan_words;
@@ -18,10 +19,8 @@ fn copy_words(room: &mut [u8], at: usize, body: &[u8], from: usize, m: usize)
     requires { (at + 4 * m ≤ length room.old) × (from + 4 * m ≤ length body.now) }
     ensures { room.new ≡ splice at (take (4 * m) (drop from (was body))) room.old }
 {
-    let mut q = 0;
-    while q < m {
-        number::write_u32(room, at + 4 * q, number::read_u32(body, from + 4 * q));
-        q += 1;
+    for q in 0..m {
+        short_copy::copy_number::<u32>(room, at + 4 * q, body, from + 4 * q);
     }
 }
 

@@ -30,12 +30,10 @@ pub fn parts_rise(plan: &[u64], parts: &[u64]) -> bool
 {
     let n = plan::parts::node_count(plan);
     let mut end: u64 = 0;
-    let mut i: usize = 0;
-    while i < n {
+    for i in 0..n {
         let validity = end_behind(plan, parts, i, 0, end);
         let first = end_behind(plan, parts, i, 1, validity);
         end = end_behind(plan, parts, i, 2, first);
-        i += 1;
     }
     end < u64::MAX
 }

@@ -3,13 +3,23 @@ ghost use Rattle.std.specs.Prelude.{◌≡◌, ◌+◌, ◌*◌, ◌≤◌, leng
 ghost use Rattle.clauses.specs.Slices.{was, left};
 ghost use Rattle.number.specs.Number.{splice};
 
+use number::Unsigned;
+
+// A number of body at `from` into room at `at`.
+pub fn copy_number<N: Unsigned>(room: &mut [u8], at: usize, body: &[u8], from: usize)
+    requires { (at + N.SIZE ≤ length room.old) × (from + N.SIZE ≤ length body.now) }
+    ensures { room.new ≡ splice at (take N.SIZE (drop from (was body))) room.old }
+{
+    N::read(body, from).write(room, at);
+}
+
 // 16 bytes of body at `from` into room at `at`.
 fn copy_16(room: &mut [u8], at: usize, body: &[u8], from: usize)
     requires { (at + 16 ≤ length room.old) × (from + 16 ≤ length body.now) }
     ensures { room.new ≡ splice at (take 16 (drop from (was body))) room.old }
 {
-    number::write_u64(room, at, number::read_u64(body, from));
-    number::write_u64(room, at + 8, number::read_u64(body, from + 8));
+    copy_number::<u64>(room, at, body, from);
+    copy_number::<u64>(room, at + 8, body, from + 8);
 }
 
 // 32 bytes, likewise.
@@ -27,15 +37,15 @@ fn copy_word(room: &mut [u8], at: usize, body: &[u8], from: usize, w: usize)
     ensures { room.new ≡ splice at (take w (drop from (was body))) room.old }
 {
     if w == 8 {
-        number::write_u64(room, at, number::read_u64(body, from));
+        copy_number::<u64>(room, at, body, from);
         return;
     }
     if w == 4 {
-        number::write_u32(room, at, number::read_u32(body, from));
+        copy_number::<u32>(room, at, body, from);
         return;
     }
     if w == 2 {
-        number::write_u16(room, at, number::read_u16(body, from));
+        copy_number::<u16>(room, at, body, from);
         return;
     }
     if w == 16 {

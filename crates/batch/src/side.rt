@@ -88,8 +88,7 @@ pub fn advance(
 {
     let mut b = a;
     let mut k = m;
-    let mut r = from;
-    while r < n {
+    for r in from..n {
         let start = lookups::entry_at(body, offsets, w, slot + r);
         let size = lookups::entry_at(body, sizes, w, slot + r);
         let side = side_of(b, k, start, size);
@@ -102,11 +101,10 @@ pub fn advance(
         }
         b = next_start(side, b, start);
         k = next_size(side, k, size);
-        r += 1;
     }
     Stretch {
         a: b,
         m: k,
-        next: r,
+        next: n,
     }
 }

@@ -10,6 +10,7 @@ ghost use Rattle.batch.specs.Stretch.{sum_of};
 ghost use Rattle.batch.specs.batch_walk.Side.{furthest_of};
 
 use nested_rows::lookups;
+use number::Unsigned;
 use walk::plan_words;
 
 // `rows` and the n sizes of w bytes at `at`, from size `slot` on, together; it stays at the largest number.
@@ -19,10 +20,8 @@ fn add_sizes(body: &[u8], at: u64, w: u64, slot: u64, n: u64, rows: u64) -> u64
     ensures { result ≡ grown rows (sum_of (λ q. entry w (was body) at (slot + q)) n) }
 {
     let mut sum = rows;
-    let mut r: u64 = 0;
-    while r < n {
+    for r in 0..n {
         sum = plan_words::grow(sum, lookups::entry_at(body, at, w, slot + r));
-        r += 1;
     }
     sum
 }
@@ -57,10 +56,10 @@ fn write_entry(room: &mut [u8], at: usize, w: u64, v: u64)
     ensures { room.new ≡ splice at (encode w v) room.old }
 {
     if w == 4 {
-        number::write_u32(room, at, (v % 4294967296) as u32);
+        u32::truncate(v).write(room, at);
         return;
     }
-    number::write_u64(room, at, v);
+    v.write(room, at);
 }
 
 // `rows` and the sizes before each of the n together, at `to`.
@@ -79,11 +78,9 @@ fn write_sums_by(
     ensures { room.new ≡ splice to (numbers w (λ r. rows + sum_of (λ q. entry w (was body) at (slot + q)) r) n) room.old }
 {
     let mut sum = rows;
-    let mut r: u64 = 0;
-    while r < n {
+    for r in 0..n {
         write_entry(room, to + ((w * r) as usize), w, sum);
         sum += lookups::entry_at(body, at, w, slot + r);
-        r += 1;
     }
 }
 
@@ -150,23 +147,12 @@ fn furthest_by(body: &[u8], offsets: u64, sizes: u64, w: u64, slot: u64, n: u64)
     ensures { result ≡ furthest_of (λ q. entry w (was body) offsets (slot + q) + entry w (was body) sizes (slot + q)) n }
 {
     let mut most: u64 = 0;
-    let mut r: u64 = 0;
-    while r < n {
+    for r in 0..n {
         let start = lookups::entry_at(body, offsets, w, slot + r);
         let end = plan_words::grow(start, lookups::entry_at(body, sizes, w, slot + r));
-        most = larger(most, end);
-        r += 1;
+        most = most.max(end);
     }
     most
-}
-
-pub fn larger(a: u64, b: u64) -> u64
-    ensures { result ≡ cond (ltb a b) b a }
-{
-    if a < b {
-        return b;
-    }
-    a
 }
 
 // The same, each width by itself.

@@ -7,7 +7,8 @@ ghost use Rattle.walk.specs.State.{rows};
 ghost use Rattle.walk.specs.Log.{put, apply_if};
 ghost use Rattle.batch.specs.batch_walk.Fall.{home_by, lands_by, all_land, Fallen};
 
-use crate::{homes, sizes};
+use crate::homes;
+use number::Unsigned;
 use walk::plan_words;
 
 // Whether every row has a child whose rows its position can name, and whether each child's rows are one stretch.
@@ -30,10 +31,7 @@ fn begin_of(taken: u64, begin: u64, start: u64) -> u64
 fn still(whole: bool, a: u64, b: u64) -> bool
     ensures { result ≡ cond (eqb a b) whole false }
 {
-    if a == b {
-        return whole;
-    }
-    false
+    a == b && whole
 }
 
 // The rows that fall to each child: where its first stretch begins, how many they are, and how far they reach.
@@ -55,8 +53,7 @@ pub fn survey(
     ensures fallen { result.sound ≡ true → Fallen (λ r. home_by (was homes) (was body) (ids + (slot + r))) (λ r. entry 4 (was body) positions (slot + r)) n n result.whole begins.new taken.new ends.new }
 {
     let mut whole = true;
-    let mut r: u64 = 0;
-    while r < n {
+    for r in 0..n {
         let k = homes::home_at(homes, body, ids + (slot + r)) as usize;
         if 32 <= k {
             return Fall {
@@ -76,8 +73,7 @@ pub fn survey(
         whole = still(whole, b + t, start);
         begins[k] = b;
         taken[k] = t + 1;
-        ends[k] = sizes::larger(ends[k], start + 1);
-        r += 1;
+        ends[k] = ends[k].max(start + 1);
     }
     Fall { sound: true, whole }
 }
@@ -87,10 +83,8 @@ fn rows_of_all(counters: &[u64; plan_words::COUNTERS]) -> [u64; 32]
     ensures { (length result ≡ 32) × ((k : ℕ) → k < 32 → get_or result k 0 ≡ rows (was counters) k) }
 {
     let mut lands = [0u64; 32];
-    let mut k: usize = 0;
-    while k < 32 {
+    for k in 0..32 {
         lands[k] = plan_words::rows_of(counters, k);
-        k += 1;
     }
     lands
 }
@@ -110,13 +104,11 @@ fn write_lands(
     ensures { room.new ≡ splice to (numbers 4 (lands_by (λ r. home_by (was homes) (was body) (ids + (slot + r))) (was counters)) n) room.old }
 {
     let mut lands = rows_of_all(counters);
-    let mut r: u64 = 0;
-    while r < n {
+    for r in 0..n {
         let k = homes::home_at(homes, body, ids + (slot + r)) as usize;
         let v = lands[k];
-        number::write_u32(room, to + 4 * (r as usize), (v % 4294967296) as u32);
+        u32::truncate(v).write(room, to + 4 * (r as usize));
         lands[k] = v + 1;
-        r += 1;
     }
 }
 

@@ -1,4 +1,4 @@
-// A list-view's child of byte strings, by stretches.
+// A list-view's child of numbers or byte strings, by stretches.
 ghost use Rattle.std.specs.Prelude.{◌≡◌, true, [], ℕ, suc, ◌+◌, ◌*◌, ◌<◌, ◌≤◌, ◌^◌, length};
 ghost use Rattle.number.specs.Number.{entry};
 ghost use Rattle.walk.specs.State.{place};
@@ -9,13 +9,14 @@ ghost use Rattle.batch.specs.Batch.{batch_leaf};
 ghost use Rattle.batch.specs.batch_walk.Plain.{is_text};
 ghost use Rattle.batch.specs.batch_walk.Rows.{list_stretches};
 
-use crate::{side, sizes, text_puts, text_rows, texts};
+use crate::flat_child::{FlatChild, TextChild};
+use crate::{side, sizes, text_puts, text_rows};
 use array_data::lent_tables;
 use nested_rows::lookups;
 use walk::plan_words;
 
 // The stretches of the child, for offsets and sizes of w bytes.
-fn copy_each(
+pub fn copy_each<C: FlatChild>(
     plan: &[u64],
     parts: &[u64],
     lengths: &[u64],
@@ -30,7 +31,7 @@ fn copy_each(
     slot: u64,
     n: u64,
 ) -> u8
-    requires first_bound { (first < 2 ^ 32) × (i + 1 < 32) × (slot + n < 2 ^ 63) × (is_text plan.now (suc i) ≡ true) }
+    requires first_bound { (first < 2 ^ 32) × (i + 1 < 32) × (slot + n < 2 ^ 63) × (C.holds plan.now (suc i) ≡ true) }
     requires n_in_bounds { (place (join [] [] [] places.now [] first 0) i 3 + w * (slot + n) ≤ length body.now) × (place (join [] [] [] places.now [] first 0) i 5 + w * (slot + n) ≤ length body.now) }
     requires n_bound { sum_of (λ q. entry w body.now (place (join [] [] [] places.now [] first 0) i 5) (slot + q)) n < 2 ^ 63 }
     requires w_value { (w ≡ 4 → ⊥) → w ≡ 8 }
@@ -44,7 +45,7 @@ fn copy_each(
     let mut r: u64 = 0;
     while r <= n {
         let t = side::advance(body, offsets, sizes, w, slot, n, r, a, m);
-        let g = texts::copy_stretch(
+        let g = C::copy_stretch(
             plan,
             parts,
             lengths,
@@ -169,7 +170,7 @@ pub fn copy_stretches(
         v,
     );
     if t == u64::MAX {
-        return copy_each(
+        return copy_each::<TextChild>(
             plan, parts, lengths, places, body, counters, room, write, first, i, w, slot, n,
         );
     }

@@ -54,8 +54,7 @@ pub fn list_chars(
     ensures { (result ≡ top → ⊥) → ((q : ℕ) → q < n → Rising v (was body) at most (offset + entry w (was body) offsets (slot + q)) (entry w (was body) sizes (slot + q))) × (result ≡ sum_of (λ q. chars_of v (was body) at (offset + entry w (was body) offsets (slot + q)) (entry w (was body) sizes (slot + q))) n) }
 {
     let mut sum: u64 = 0;
-    let mut r: u64 = 0;
-    while r < n {
+    for r in 0..n {
         let a = lookups::entry_at(body, offsets, w, slot + r);
         let m = lookups::entry_at(body, sizes, w, slot + r);
         let d = chars_of(body, at, v, offset + a, m, most);
@@ -63,7 +62,6 @@ pub fn list_chars(
             return u64::MAX;
         }
         sum = plan_words::grow(sum, d);
-        r += 1;
     }
     sum
 }

@@ -1,5 +1,5 @@
 // Stretches of byte strings without validity: offsets and bytes. The steps are those of `leaf_walk::variable_size`, whose inlining a second caller would end.
-ghost use Rattle.std.specs.Prelude.{◌≡◌, true, List, [], ◌∷◌, ℕ, ◌+◌, ◌*◌, ◌<◌, ◌≤◌, ◌^◌, min, length, take, drop};
+ghost use Rattle.std.specs.Prelude.{◌≡◌, true, List, [], ◌∷◌, ℕ, ◌+◌, ◌*◌, ◌<◌, ◌≤◌, ◌^◌, length, take, drop};
 ghost use Rattle.clauses.specs.Slices.{was, left};
 ghost use Rattle.utils.specs.Extension.{extended};
 ghost use Rattle.walk.specs.State.{bytes_of, bytes};
@@ -56,26 +56,14 @@ fn rises_by(body: &[u8], from: u64, w: u64, n: u64) -> bool
     ensures { result ≡ never_falls w (was body) from n }
 {
     let mut before = lookups::entry_at(body, from, w, 0);
-    let mut r: u64 = 0;
-    while r < n {
+    for r in 0..n {
         let next = lookups::entry_at(body, from, w, r + 1);
         if next < before {
             return false;
         }
         before = next;
-        r += 1;
     }
     true
-}
-
-// The smaller of two numbers.
-fn smaller(n: u64, j: u64) -> u64
-    ensures { result ≡ min n j }
-{
-    if n < j {
-        return n;
-    }
-    j
 }
 
 // The same of at most four offsets, without a loop.
@@ -85,11 +73,11 @@ fn few_rise(body: &[u8], from: u64, w: u64, n: u64) -> bool
     ensures { result ≡ never_falls w (was body) from n }
 {
     let lead = lookups::entry_at(body, from, w, 0);
-    let one = lookups::entry_at(body, from, w, smaller(n, 1));
+    let one = lookups::entry_at(body, from, w, n.min(1));
     if one < lead {
         return false;
     }
-    let two = lookups::entry_at(body, from, w, smaller(n, 2));
+    let two = lookups::entry_at(body, from, w, n.min(2));
     if two < one {
         return false;
     }

@@ -23,25 +23,6 @@ use Rattle.refinement.specs.orders.Order.{After, Lent, source_count, source_leng
 use Rattle.transform.specs.Answer.{Answers}
 use Rattle.walk.proofs.Names.{null_fields}
 
--- ---- counters one after the other
-
--- the first i counters are written
-abbrev pub Written : List ℕ → List ℕ → ℕ → Type 0
-Written from to i = (length to ≡ 96) × ((j : ℕ) → j < i → get_or to j 0 ≡ get_or from j 0)
-
-pub written_none : (from to : List ℕ) → length to ≡ 96 → Written from to 0
-written_none from to h = (h, λ j q. absurd (omega arith))
-
-pub written_more : (from to : List ℕ) (i v : ℕ) → i < 96 → Written from to i → v ≡ get_or from i 0 → Written from (set to i v) (i + 1)
-written_more from to i v h w e = (
-  length-set to i v ∙ w.0,
-  below_more (λ j. get_or (set to i v) j 0 ≡ get_or from j 0) i (λ j q. get_or-set_other to i j v 0 (λ z. omega arith) ∙ w.1 j q)
-      (get_or-set_same to i v 0 (omega (arith, w.0)) ∙ e),
-)
-
-pub written_all : (from to : List ℕ) (i : ℕ) → 96 ≤ i → length from ≡ 96 → Written from to i → to ≡ from
-written_all from to i h l w = ext_get_or 0 to from (w.0 ∙ sym l) (λ j q. w.1 j (omega (arith, w.0)))
-
 -- ---- a walk that is tried, the parts asked, and the walk made
 
 module _ (x : Lent) (counters room : List ℕ) where

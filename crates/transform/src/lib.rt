@@ -41,11 +41,7 @@ pub fn load(counters: &[u64]) -> [u64; plan_words::COUNTERS]
     ensures { result ≡ was counters }
 {
     let mut tally = [0u64; plan_words::COUNTERS];
-    let mut i = 0;
-    while i < plan_words::COUNTERS {
-        tally[i] = counters[i];
-        i += 1;
-    }
+    tally.copy_from_slice(counters);
     tally
 }
 
@@ -58,14 +54,10 @@ pub fn copied(counters: [u64; plan_words::COUNTERS]) -> [u64; plan_words::COUNTE
 
 // The counters as the array has them.
 pub fn store(counters: &mut [u64], tally: &[u64; plan_words::COUNTERS])
-    requires { (length counters.old ≡ 96) × (length tally.now ≡ 96) }
+    requires { length counters.old ≡ 96 }
     ensures { counters.new ≡ was tally }
 {
-    let mut i = 0;
-    while i < plan_words::COUNTERS {
-        counters[i] = tally[i];
-        i += 1;
-    }
+    counters.copy_from_slice(tally);
 }
 
 // Whether the rows start .. end - 1 are rows of the source whose first node is `first`.

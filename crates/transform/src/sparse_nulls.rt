@@ -23,12 +23,10 @@ fn fields_ground(plan: &[u64], parts: &[u64], counters: &[u64], m: usize, end: u
 {
     let r = plan_words::grow(lent_tables::at_u64(counters, 0), n);
     let mut g = sparse_rows::ids_ground(plan, parts, m, r);
-    let mut k = 1;
-    while k < end {
+    for k in 1..end {
         let w = numbers::number_size(plan_words::code_of(plan, k));
         let r = plan_words::grow(lent_tables::at_u64(counters, 3 * k), n);
         g = sparse_rows::worse(g, numbers::node_ground(plan, parts, m, k, w, r));
-        k += 1;
     }
     g
 }
@@ -69,10 +67,8 @@ fn put_fields(
     requires { (length counters.old ≡ 96) × (end ≤ 32) × (end ≡ nodes_of plan.now) × Sparse plan.now × (n ≡ 0 → ⊥) }
     ensures { let walk = null_walk (null_join plan parts) 7 in Walks plan parts true (each_field (was plan) (λ k c. walk k n c) end 32 1) counters room 0 }
 {
-    let mut k = 1;
-    while k < end {
+    for k in 1..end {
         put_field(plan, parts, counters, room, k, n);
-        k += 1;
     }
 }
 

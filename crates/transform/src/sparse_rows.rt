@@ -41,12 +41,10 @@ fn are_fields(plan: &[u64], n: usize) -> bool
     requires { n ≤ 32 }
     ensures { result ≡ true → (k : ℕ) → 1 ≤ k → k < n → numbers_at (was plan) k ≡ true }
 {
-    let mut k = 1;
-    while k < n {
+    for k in 1..n {
         if !is_field(plan, k) {
             return false;
         }
-        k += 1;
     }
     true
 }
@@ -138,15 +136,13 @@ fn fields_ground(
 {
     let r = plan_words::grow(lent_tables::at_u64(counters, 0), n);
     let mut g = ids_ground(plan, parts, m, r);
-    let mut k = 1;
-    while k < end {
+    for k in 1..end {
         let w = numbers::number_size(plan_words::code_of(plan, k));
         if !field_in(plan, lengths, places, body, first, k, w, row, n) {
             return 12;
         }
         let r = plan_words::grow(lent_tables::at_u64(counters, 3 * k), n);
         g = worse(g, numbers::node_ground(plan, parts, m, k, w, r));
-        k += 1;
     }
     g
 }
@@ -243,12 +239,10 @@ fn put_fields(
     requires end_value { fields_in (join plan.now parts.now lengths.now places.now body.now first 0) row n end 32 1 ≡ true }
     ensures { (source : ℕ) → let x = lent_join plan parts lengths places body first source in Walks plan parts true (each_field (was plan) (λ k c. copy_walk x 7 k row n c) end 32 1) counters room 0 }
 {
-    let mut k = 1;
-    while k < end {
+    for k in 1..end {
         put_field(
             plan, parts, lengths, places, body, counters, room, first, k, row, n,
         );
-        k += 1;
     }
 }
 

@@ -48,7 +48,6 @@ pub fn copy_stretches(
     let g = batch::batch_walk::copy_by_stretches(
         plan, parts, lengths, places, body, &mut tally, room, true, first, start, n,
     );
-    let made = crate::copied(tally);
-    crate::store(counters, &made);
+    crate::store(counters, &tally);
     g
 }

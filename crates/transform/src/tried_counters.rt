@@ -9,38 +9,28 @@ use walk::plan_words;
 
 // The counters with the nulls of the first n nodes full: what a copy is tried on, so that it reads no validity bit.
 pub fn uncounted(tally: &mut [u64; plan_words::COUNTERS], counters: &[u64], n: usize)
-    requires { (length tally.old ≡ 96) × (length counters.now ≡ 96) × (n ≤ 32) }
+    requires { (length counters.now ≡ 96) × (n ≤ 32) }
     ensures alike { Alike tally.new (was counters) }
     ensures beyond { Beyond n tally.new (was counters) }
 {
     reload(tally, counters, 32);
-    let mut i = 0;
-    while i < n {
+    for i in 0..n {
         tally[3 * i + 1] = u64::MAX;
-        i += 1;
     }
 }
 
 // The counters of the first n nodes as they are lent, in an array that has the others.
 pub fn reload(tally: &mut [u64; plan_words::COUNTERS], counters: &[u64], n: usize)
-    requires { (length tally.old ≡ 96) × (length counters.now ≡ 96) × (n ≤ 32) × Beyond n tally.old counters.now }
+    requires { (length counters.now ≡ 96) × (n ≤ 32) × Beyond n tally.old counters.now }
     ensures { tally.new ≡ was counters }
 {
-    let mut i = 0;
-    while i < 3 * n {
-        tally[i] = counters[i];
-        i += 1;
-    }
+    tally[..3 * n].copy_from_slice(&counters[..3 * n]);
 }
 
 // The counters of the first n nodes as the array has them, where the others are those that are lent.
 pub fn keep(counters: &mut [u64], tally: &[u64; plan_words::COUNTERS], n: usize)
-    requires { (length counters.old ≡ 96) × (length tally.now ≡ 96) × (n ≤ 32) × Beyond n counters.old tally.now }
+    requires { (length counters.old ≡ 96) × (n ≤ 32) × Beyond n counters.old tally.now }
     ensures { counters.new ≡ was tally }
 {
-    let mut i = 0;
-    while i < 3 * n {
-        counters[i] = tally[i];
-        i += 1;
-    }
+    counters[..3 * n].copy_from_slice(&tally[..3 * n]);
 }

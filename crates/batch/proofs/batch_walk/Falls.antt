@@ -1,8 +1,8 @@
 -- Rows of a dense union looked at one after the other: what has fallen to each child. Assumes nothing.
-use mathlib.Core.Path.{◌≡◌, refl, sym, ap, subst, ◌∙◌}
+use mathlib.Core.Path.{◌≡◌, refl, sym, ap, ◌∙◌}
 use mathlib.Core.Bool.{Bool, true, false, cond, ◌&&◌, false≢true}
 use mathlib.Core.List.{List}
-use Prim.Native.Nat.{ℕ, zero, suc, ◌+◌, ◌*◌, ◌-◌, ◌≤◌, ◌<◌, min}
+use Prim.Native.Nat.{ℕ, zero, suc, ◌+◌, ◌-◌, ◌≤◌, ◌<◌, min, max}
 use native.Mathlib.Nat.{add-zero, sub-zero}
 use native.Mathlib.Numerals.{add-one}
 use native.Mathlib.Omega.{arith}
@@ -11,7 +11,6 @@ use lib.Seq.{get_or-set_same, get_or-set_other}
 use lib.Dec.{leb, ltb, eqb}
 use borrow.Author.Tests.{eqb-true, eqb-false, eq-eqb, ne_eqb, le-leb, le-ltb, lt-ltb, ltb-true}
 use Rattle.columnar.specs.Types.{half}
-use Rattle.columnar.specs.Test.{every}
 use Rattle.plan.proofs.parts.Placed.{every_at}
 use Rattle.walk.specs.State.{rows, grown, top}
 use Rattle.walk.specs.Log.{Out, next}
@@ -129,7 +128,7 @@ module _ (home : ℕ → ℕ) where
 
     module _ (r : ℕ) (whole : Bool) (begins taken ends : List ℕ) (f : Fallen home pos n r whole begins taken ends) (left : r < n) {j start t b e r2 : ℕ} {whole2 : Bool}
         (is : j ≡ home r) (small : j < 32) (at : start ≡ pos r) (low : start < 4294967296) (had : t ≡ get_or taken j 0) (begin : b ≡ cond (eqb t 0) start (get_or begins j 0))
-        (still : whole2 ≡ cond (eqb (b + t) start) whole false) (reach : e ≡ cond (ltb (get_or ends j 0) (start + 1)) (start + 1) (get_or ends j 0)) (more : r2 ≡ r + 1) where
+        (still : whole2 ≡ cond (eqb (b + t) start) whole false) (reach : e ≡ max (get_or ends j 0) (start + 1)) (more : r2 ≡ r + 1) where
       else_home : (k : ℕ) → eqb j k ≡ false → home r ≡ k → ⊥
       else_home k q z = eqb-false j k q (is ∙ z)
 
@@ -153,7 +152,7 @@ module _ (home : ℕ → ℕ) where
           rw (← z, more) (set_here ends e f.long.2 ∙ furthest_more (λ q. takes_from home pos j q + takes_of home j q) r (f.furthest j small) y reach)
       reach_go k h false q =
           let y : 0 ≡ min (takes_from home pos k r + takes_of home k r) top = rw (from_else pos k r (else_home k q), takes_else k r (else_home k q)) (omega arith) in
-          let o : get_or ends k 0 ≡ cond (ltb (get_or ends k 0) 0) 0 (get_or ends k 0) = rw (le-ltb (get_or ends k 0) 0 (omega arith)) refl in
+          let o : get_or ends k 0 ≡ max (get_or ends k 0) 0 = omega arith in
           rw more (set_else ends e k q ∙ furthest_more (λ q. takes_from home pos k q + takes_of home k q) r (f.furthest k h) y o)
 
       begin_low : b < 4294967296
@@ -252,11 +251,6 @@ module _ (home : ℕ → ℕ) (c : List ℕ) where
             let s = sum_more (takes_of home k) r in
             let o = takes_else home k r (λ z. eqb-false j k q (is ∙ z)) in
             rw more (get_or-set_other lands j k (v + 1) 0 (λ z. eqb-false j k q (sym z)) ∙ f.1 k h ∙ (let w : rows c k + sum_of (takes_of home k) r ≡ rows c k + sum_of (takes_of home k) (r + 1) = omega arith in w))
-
--- the row of a child that ends its stretch
-pub cut_here : (home pos : ℕ → ℕ) (k r a m : ℕ) {s d : ℕ} → k ≡ home r → s ≡ pos r → d ≡ side_of a m s 1 → d ≡ 3 → side_of a m (takes_from home pos k r) (takes_of home k r) ≡ 3
-cut_here home pos k r a m {s} {d} e f g h =
-    ap (λ v. side_of a m v (takes_of home k r)) (from_here home pos k r e) ∙ ap (λ v. side_of a m (pos r) v) (takes_here home k r e) ∙ ap (λ v. side_of a m v 1) (sym f) ∙ sym g ∙ h
 
 -- a row is one of a child, or none
 pub size_most : (b : Bool) {s : ℕ} → s ≡ cond b 1 0 → s ≤ 1

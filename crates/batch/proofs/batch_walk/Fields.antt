@@ -1,17 +1,17 @@
 -- A dense union that stands by stretches of its children: what the code does, step by step. Assumes nothing.
-use mathlib.Core.Path.{◌≡◌, refl, sym, ap, subst, fun_ext, ◌∙◌}
-use mathlib.Core.Bool.{Bool, true, false, cond, not, ◌&&◌}
+use mathlib.Core.Path.{◌≡◌, refl, ap, subst, fun_ext, ◌∙◌}
+use mathlib.Core.Bool.{Bool, true, false, not, ◌&&◌}
 use mathlib.Core.List.{List, ◌∷◌, []}
-use Prim.Native.Nat.{ℕ, zero, suc, ◌+◌, ◌*◌, ◌-◌, ◌≤◌, ◌<◌}
+use Prim.Native.Nat.{ℕ, zero, suc, ◌+◌, ◌*◌, ◌≤◌, ◌<◌}
 use native.Mathlib.Omega.{arith}
 use lib.ListN.{length, take, drop, get_or}
-use lib.Dec.{leb, ltb, eqb}
+use lib.Dec.{leb, ltb}
 use borrow.Author.Tests.{lt-ltb, le-ltb, leb-true}
 use Rattle.array_data.proofs.lent_tables.Laws.{no, yes}
 use Rattle.number.specs.Number.{entry}
 use Rattle.utils.specs.Pieces.{numbers}
 use Rattle.walk.specs.State.{Join, end_of, rows, scaled, top, place, rows_in}
-use Rattle.walk.specs.Log.{Out, Did, put, apply_if, done, need, next}
+use Rattle.walk.specs.Log.{Out, Did, put, apply_if}
 use Rattle.walk.specs.Copy.{child_with, position_at}
 use Rattle.walk.proofs.Laws.{done_did, wrote_did, need_no, need_ok, next_no, next_ok}
 use Rattle.leaf_walk.proofs.Laws.{wrote_at}

@@ -1,20 +1,20 @@
 -- Stretches of numbers that all stand in the body, where the room has them all: their rows are written one behind the other. Assumes nothing.
-use mathlib.Core.Path.{◌≡◌, refl, sym, ap, subst, ◌∙◌}
+use mathlib.Core.Path.{◌≡◌, refl, sym, ap, ◌∙◌}
 use mathlib.Core.Bool.{Bool, true, false, cond, not, ◌&&◌}
 use mathlib.Core.List.{List, [], ◌∷◌, ◌++◌, append_assoc, append-nil}
 use Prim.Native.Nat.{ℕ, zero, suc, ◌+◌, ◌*◌, ◌-◌, ◌≤◌, ◌<◌}
-use native.Mathlib.Nat.{add-zero, zero-add, add_assoc, mul-add, add-mul, mul_comm, mul-le-mul_left, mul-one, mul-zero, le_refl}
+use native.Mathlib.Nat.{add-zero, zero-add, mul-add, add-mul, mul_comm, mul-le-mul_left, mul-one, mul-zero, le_refl}
 use native.Mathlib.Numerals.{add-one}
 use native.Mathlib.Omega.{arith}
 use lib.ListN.{length, take, drop, get_or, set, length-append, length-set}
 use lib.Seq.{take-add, drop-drop}
-use lib.Dec.{leb, ltb, eqb}
+use lib.Dec.{leb, eqb}
 use borrow.Author.Tests.{eqb-true, le-leb}
 use Rattle.number.specs.Number.{splice}
 use Rattle.number.proofs.Laws.{splice_splice, length_splice}
 use Rattle.utils.specs.Pieces.{pieces}
-use Rattle.walk.specs.State.{Join, bytes_of, rows, add_rows, grown, scaled, top, place, offset_of, far, slot_of, rows_in}
-use Rattle.walk.specs.Log.{Log, Out, Did, put, done, wrote, need, found, next, start_of, in_room, enter, apply, apply_if}
+use Rattle.walk.specs.State.{Join, bytes_of, rows, add_rows, grown, scaled, top, place, offset_of, far, slot_of}
+use Rattle.walk.specs.Log.{Out, Did, put, done, wrote, found, next, start_of, in_room, enter, apply, apply_if}
 use Rattle.walk.specs.Leaves.{copy_numbers}
 use Rattle.room_writes.proofs.Bytes.{length_copied}
 use Rattle.room_writes.proofs.Laws.{Made}
@@ -22,7 +22,7 @@ use Rattle.array_data.proofs.lent_tables.Laws.{yes}
 use Rattle.batch.specs.Stretch.{sum_of, stretch, stretches}
 use Rattle.batch.specs.Batch.{batch_leaf}
 use Rattle.batch.proofs.Ends.{need_is, found_is}
-use Rattle.batch.proofs.Stretches.{and_left, and_right}
+use Rattle.batch.proofs.Stretches.{and_left}
 use Rattle.batch.proofs.ListViews.{sum_up}
 use Rattle.batch.specs.batch_walk.Plain.{is_plain, reached}
 use Rattle.batch.specs.batch_walk.Side.{furthest_of}

@@ -2,17 +2,17 @@
 use mathlib.Core.Path.{◌≡◌, refl, sym, ap, ◌∙◌}
 use mathlib.Core.Bool.{Bool, true, false, cond}
 use mathlib.Core.List.{List}
-use Prim.Native.Nat.{ℕ, zero, suc, ◌+◌, ◌-◌, ◌≤◌, ◌<◌}
+use Prim.Native.Nat.{ℕ, suc, ◌+◌, ◌-◌, ◌≤◌, ◌<◌}
 use native.Mathlib.Numerals.{add-one}
 use native.Mathlib.Omega.{arith}
 use lib.ListN.{length, get_or, set, replicate, length-set, length-replicate, get_or-replicate}
 use lib.Seq.{get_or-set_same, get_or-set_other}
-use lib.Dec.{ltb, eqb}
-use borrow.Author.Tests.{eqb-true, eqb-false, eq-eqb, ne_eqb}
+use lib.Dec.{eqb}
+use borrow.Author.Tests.{eqb-true, eqb-false, ne_eqb}
 use Rattle.walk.specs.State.{id_of, end_of}
 use Rattle.walk.specs.Copy.{child_with}
 use Rattle.batch.specs.batch_walk.Fall.{Homed}
-use Rattle.nested_rows.proofs.lookups.Laws.{child_none, child_here, child_next}
+use Rattle.nested_rows.proofs.lookups.Laws.{child_here, child_next}
 
 module _ (plan : List ℕ) (end first : ℕ) where
   -- t children are in the table, and child k is next

@@ -1,12 +1,12 @@
 -- Rows of byte strings that a list-view names, looked at one by one. Assumes nothing.
 use mathlib.Core.Path.{◌≡◌, refl, sym, ap, subst, ◌∙◌}
-use mathlib.Core.Bool.{Bool, true, false, cond, not, ◌&&◌}
+use mathlib.Core.Bool.{Bool, true, false, cond, not}
 use mathlib.Core.List.{List}
-use Prim.Native.Nat.{ℕ, suc, ◌+◌, ◌*◌, ◌-◌, ◌^◌, ◌≤◌, ◌<◌, min}
+use Prim.Native.Nat.{ℕ, suc, ◌+◌, ◌*◌, ◌-◌, ◌^◌, ◌≤◌, ◌<◌}
 use native.Mathlib.Nat.{add-zero}
 use native.Mathlib.Numerals.{add-one}
 use native.Mathlib.Omega.{arith}
-use lib.ListN.{length, get_or}
+use lib.ListN.{length}
 use lib.Dec.{ltb, eqb}
 use borrow.Author.Tests.{lt-ltb, ltb-true, leb-true, eqb-true, eqb-false}
 use Rattle.columnar.specs.Types.{half}
@@ -15,7 +15,7 @@ use Rattle.array_data.proofs.lent_tables.Laws.{yes}
 use Rattle.walk.specs.State.{Join, bytes_of, bytes, add_rows, set_bytes, grown, top, place, offset_of, far, slot_of, rows_in}
 use Rattle.walk.specs.Log.{Out, Did}
 use Rattle.number.specs.Number.{entry}
-use Rattle.batch.specs.Stretch.{sum_of, never_falls, stretches}
+use Rattle.batch.specs.Stretch.{sum_of, stretches}
 use Rattle.batch.specs.Batch.{batch_leaf}
 use Rattle.batch.specs.batch_walk.Plain.{is_text, reached}
 use Rattle.batch.specs.batch_walk.Side.{furthest_of}

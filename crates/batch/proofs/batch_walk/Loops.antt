@@ -2,13 +2,13 @@
 use mathlib.Core.Path.{◌≡◌, refl, sym, ap, subst, ◌∙◌}
 use mathlib.Core.Bool.{Bool, true, false, cond}
 use mathlib.Core.List.{List}
-use Prim.Native.Nat.{ℕ, zero, suc, ◌+◌, ◌-◌, ◌≤◌, ◌<◌}
+use Prim.Native.Nat.{ℕ, suc, ◌+◌, ◌-◌, ◌≤◌}
 use native.Mathlib.Nat.{sub-zero}
 use native.Mathlib.Numerals.{add-one}
 use native.Mathlib.Omega.{arith}
 use lib.Dec.{eqb}
 use borrow.Author.Tests.{eqb-true, eqb-false}
-use Rattle.walk.specs.Log.{Out, Did, next}
+use Rattle.walk.specs.Log.{Out, Did}
 use Rattle.walk.proofs.Laws.{Rest, next_no, next_ok}
 use Rattle.number.specs.Number.{entry}
 use Rattle.batch.specs.Stretch.{stretch, stretches}
@@ -75,10 +75,6 @@ begun walk start size false n begin total c room one e f g g2 c2 room2 d = rw (e
 
 -- one turn of the loop: o0 from room0 is the whole, the rows from r on are left, and the stretch ends before row t
 module _ {plan parts : List ℕ} {wr : Bool} (walk : ℕ → ℕ → List ℕ → Out) (start size : ℕ → ℕ) (n r a m : ℕ) (c room : List ℕ) {o0 : Out} {room0 : List ℕ} (rest : Rest plan parts wr o0 room0 (stretch walk start size (n - r) r a m c) room) where
-  -- no row is left
-  pub loop_out : n ≤ r → {g : ℕ} {c1 room1 : List ℕ} → Did plan parts wr (walk a m c) room g c1 room1 → Did plan parts wr o0 room0 g c1 room1
-  loop_out h {g} {c1} {room1} d = rest g c1 room1 (stretch_last walk start size c room (n - r) r a m d (omega arith))
-
   module _ (t b k : ℕ) (e : stretch walk start size (n - r) r a m c ≡ stretch walk start size (n - t) t b k c) (within : t ≤ n) {g : ℕ} {c1 room1 : List ℕ} (d : Did plan parts wr (walk b k c) room g c1 room1) where
     pub loop_stop : (g ≡ 0 → ⊥) → ((t ≡ n → ⊥) → side_of b k (start t) (size t) ≡ 3) → Did plan parts wr o0 room0 g c1 room1
     loop_stop h f =

@@ -2,15 +2,15 @@
 use mathlib.Core.Path.{◌≡◌, refl, sym, ap, subst, fun_ext, ◌∙◌}
 use mathlib.Core.Bool.{Bool, true, false, cond, not, ◌&&◌}
 use mathlib.Core.List.{List}
-use Prim.Native.Nat.{ℕ, zero, suc, ◌+◌, ◌*◌, ◌-◌, ◌≤◌, ◌<◌}
+use Prim.Native.Nat.{ℕ, zero, suc, ◌+◌, ◌-◌, ◌≤◌, ◌<◌}
 use native.Mathlib.Numerals.{add-one}
 use native.Mathlib.Omega.{arith}
-use lib.Dec.{leb, ltb, eqb}
+use lib.Dec.{leb, eqb}
 use borrow.Author.Tests.{lt-ltb, lt-leb, leb-true}
 use Rattle.array_data.proofs.lent_tables.Laws.{no, yes}
 use Rattle.schema.specs.formats.Code.{is_fixed, is_string, is_list_view}
 use Rattle.walk.specs.State.{Join, code_of, keeps_of, bytes_of}
-use Rattle.walk.specs.Log.{Out, Did, done}
+use Rattle.walk.specs.Log.{Out, Did}
 use Rattle.walk.specs.Leaves.{copy_mask}
 use Rattle.walk.specs.Copy.{Walk, masked}
 use Rattle.nested_rows.proofs.node_data.Laws.{list_wide}

@@ -14,7 +14,7 @@ use Rattle.columnar.specs.Test.{every}
 use Rattle.plan.proofs.parts.Placed.{every_at}
 use Rattle.utils.specs.Pieces.{numbers}
 use Rattle.walk.specs.State.{Join, code_of, end_of, rows, add_rows, grown, scaled, top, place, far, slot_of, rows_in}
-use Rattle.walk.specs.Log.{Out, Did, put, apply_if, done, need, found, next}
+use Rattle.walk.specs.Log.{Out, Did, put, apply_if, done, found, next}
 use Rattle.walk.specs.Leaves.{copy_mask}
 use Rattle.walk.specs.Copy.{Walk, masked}
 use Rattle.walk.proofs.Laws.{done_did, need_no, need_ok, found_no, found_ok, next_no, next_ok}

@@ -1,12 +1,12 @@
 -- Copies of bytes by words, which may overlap. Assumes nothing.
-use mathlib.Core.Path.{◌≡◌, refl, sym, ap, subst, ◌∙◌}
+use mathlib.Core.Path.{◌≡◌, sym, ap, subst, ◌∙◌}
 use mathlib.Core.List.{List, ◌++◌, append_assoc}
-use Prim.Native.Nat.{ℕ, ◌+◌, ◌-◌, ◌≤◌, ◌<◌}
+use Prim.Native.Nat.{ℕ, ◌+◌, ◌-◌, ◌≤◌}
 use native.Mathlib.Omega.{arith}
-use lib.ListN.{length, take, drop, get_or, length-append, length-drop}
-use lib.Seq.{drop-drop, get_or-drop, take_at, length-take-le, drop-append-add}
-use Rattle.number.specs.Number.{number, encode, splice}
-use Rattle.number.proofs.Laws.{encode_number, length_splice}
+use lib.ListN.{length, take, drop, length-append, length-drop}
+use lib.Seq.{drop-drop, take_at, length-take-le, drop-append-add}
+use Rattle.number.specs.Number.{splice}
+use Rattle.number.proofs.Laws.{length_splice}
 use Rattle.number.proofs.copy.Laws.{copy_copy}
 
 -- what is written over is as if it had not been written

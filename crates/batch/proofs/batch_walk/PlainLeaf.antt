@@ -1,13 +1,13 @@
 -- A child of numbers without validity: its walk, and what the functions that ask about it answer. Assumes nothing.
-use mathlib.Core.Path.{◌≡◌, refl, sym, ap, subst, fun_ext, ◌∙◌}
-use mathlib.Core.Bool.{Bool, true, false, cond, not, ◌&&◌}
-use mathlib.Core.List.{List, []}
-use Prim.Native.Nat.{ℕ, zero, suc, ◌+◌, ◌*◌, ◌≤◌, ◌<◌}
+use mathlib.Core.Path.{◌≡◌, refl, ap, subst, fun_ext, ◌∙◌}
+use mathlib.Core.Bool.{Bool, true, false, cond, not}
+use mathlib.Core.List.{List}
+use Prim.Native.Nat.{ℕ, ◌≤◌, ◌<◌}
 use native.Mathlib.Omega.{arith}
-use lib.Dec.{leb, ltb, eqb}
+use lib.Dec.{leb, eqb}
 use borrow.Author.Tests.{lt-ltb, le-ltb, le-leb, lt-leb, leb-true}
 use Rattle.array_data.proofs.lent_tables.Laws.{no, yes, is_none, is_some}
-use Rattle.schema.specs.formats.Code.{between, is_fixed, is_string}
+use Rattle.schema.specs.formats.Code.{is_fixed, is_string}
 use Rattle.plan.specs.parts.Parts.{nodes_of, copied}
 use Rattle.walk.specs.State.{Join, code_of, dictionary_of, keeps_of, bytes_of, add_rows, place, far, slot_of, rows_in}
 use Rattle.walk.specs.Log.{Out, Did, done, need, found, next}

@@ -6,9 +6,8 @@ use Prim.Native.Nat.{ℕ, zero, suc, ◌+◌, ◌*◌, ◌-◌, ◌≤◌, ◌<�
 use native.Mathlib.Nat.{add-zero, zero-add, add-suc, mul-le-mul_left, le_refl}
 use native.Mathlib.Omega.{arith}
 use lib.ListN.{length, get_or, set}
-use lib.Dec.{leb, ltb, eqb}
+use lib.Dec.{leb, eqb}
 use borrow.Author.Tests.{lt-ltb, le-leb, leb-true, eqb-true, eqb-false}
-use Rattle.number.specs.Number.{entry}
 use Rattle.utils.specs.Offsets.{largest}
 use Rattle.walk.specs.State.{Join, bytes_of, bytes, add_rows, set_bytes, grown, place, offset_of, far, slot_of, rows_in}
 use Rattle.walk.specs.Log.{Log, Out, Did, apply_if, next}

@@ -1,8 +1,8 @@
 -- Sums of sizes and furthest ends, and entries in the body. Assumes nothing.
-use mathlib.Core.Path.{◌≡◌, refl, sym, ap, subst, ◌∙◌}
+use mathlib.Core.Path.{◌≡◌, refl, ap, subst, ◌∙◌}
 use mathlib.Core.Bool.{Bool, true, false, cond}
 use mathlib.Core.List.{List}
-use Prim.Native.Nat.{ℕ, zero, suc, ◌+◌, ◌*◌, ◌-◌, ◌≤◌, ◌<◌, min}
+use Prim.Native.Nat.{ℕ, zero, suc, ◌+◌, ◌*◌, ◌-◌, ◌≤◌, ◌<◌, min, max}
 use native.Mathlib.Nat.{mul-le-mul_left}
 use native.Mathlib.Numerals.{add-one}
 use native.Mathlib.Omega.{arith}
@@ -53,9 +53,17 @@ pub furthest_none : (f : ℕ → ℕ) → 0 ≡ furthest_of f 0
 unfolding furthest_of
 furthest_none f = refl
 
-pub furthest_more : (f : ℕ → ℕ) (r : ℕ) {e s t : ℕ} → s ≡ furthest_of f r → e ≡ min (f r) top → t ≡ cond (ltb s e) e s → t ≡ furthest_of f (r + 1)
+-- the larger of two numbers
+pub larger_is : (s e : ℕ) {t : ℕ} → t ≡ max s e → t ≡ cond (ltb s e) e s
+larger_is s e {t} g = go (ltb s e) refl
+  where
+    go : (u : Bool) → ltb s e ≡ u → t ≡ cond u e s
+    go true q = let l = ltb-true s e q in omega arith
+    go false q = let l = ltb-false s e q in omega arith
+
+pub furthest_more : (f : ℕ → ℕ) (r : ℕ) {e s t : ℕ} → s ≡ furthest_of f r → e ≡ min (f r) top → t ≡ max s e → t ≡ furthest_of f (r + 1)
 unfolding furthest_of
-furthest_more f r p q g = rw (add-one r) (rw (p, q) at g)
+furthest_more f r {e} {s} p q g = let h = larger_is s e g in rw (add-one r) (rw (p, q) at h)
 
 -- the end of the rows that an offset and a size name
 pub end_is : {e s z v u : ℕ} → e ≡ grown s z → s ≡ v → z ≡ u → e ≡ min (v + u) top
@@ -76,13 +84,12 @@ furthest_most f (suc n) r h = go (eqb r n) refl (ltb (furthest_of f n) (min (f n
 
 -- ---- words of 4 bytes
 
-pub words_step : (room body : List ℕ) (at from q m : ℕ) → at + 4 * m ≤ length room → from + 4 * m ≤ length body → q < m → ((i : ℕ) → get_or body i 0 < 256)
-    → splice (at + 4 * q) (encode 4 (number 4 (drop (from + 4 * q) body))) (splice at (take (4 * q) (drop from body)) room) ≡ splice at (take (4 * (q + 1)) (drop from body)) room
-words_step room body at from q m h g l small =
+pub words_step : (room body : List ℕ) (at from q m : ℕ) → at + 4 * m ≤ length room → from + 4 * m ≤ length body → q < m
+    → splice (at + 4 * q) (take 4 (drop (from + 4 * q) body)) (splice at (take (4 * q) (drop from body)) room) ≡ splice at (take (4 * (q + 1)) (drop from body)) room
+words_step room body at from q m h g l =
     let e : 4 * q + 4 ≡ 4 * (q + 1) = omega arith in
-    rw (encode_number 4 (drop (from + 4 * q) body) (rw length-drop (omega arith)) (λ i. rw get_or-drop (small (from + 4 * q + i))))
-    (subst (λ v. splice (at + 4 * q) (take 4 (drop (from + 4 * q) body)) (splice at (take (4 * q) (drop from body)) room) ≡ splice at (take v (drop from body)) room) e
-    (copy_copy room body at from (4 * q) 4 (omega arith) (omega arith)))
+    subst (λ v. splice (at + 4 * q) (take 4 (drop (from + 4 * q) body)) (splice at (take (4 * q) (drop from body)) room) ≡ splice at (take v (drop from body)) room) e
+    (copy_copy room body at from (4 * q) 4 (omega arith) (omega arith))
 
 -- a number read and written is the bytes where it stood
 pub word_is : (w : ℕ) (room body : List ℕ) (to from : ℕ) {room2 : List ℕ} {v : ℕ} → from + w ≤ length body → ((i : ℕ) → get_or body i 0 < 256) → v ≡ number w (drop from body) → room2 ≡ splice to (encode w v) room

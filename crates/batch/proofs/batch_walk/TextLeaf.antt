@@ -1,15 +1,15 @@
 -- A child of byte strings without validity: its walk, and what the functions that ask about it answer. Assumes nothing.
 use mathlib.Core.Path.{◌≡◌, refl, sym, ap, subst, fun_ext, ◌∙◌}
-use mathlib.Core.Bool.{Bool, true, false, cond, not, ◌&&◌}
+use mathlib.Core.Bool.{Bool, true, false, cond, not}
 use mathlib.Core.List.{List}
-use Prim.Native.Nat.{ℕ, zero, suc, ◌+◌, ◌*◌, ◌≤◌, ◌<◌}
+use Prim.Native.Nat.{ℕ, suc, ◌+◌, ◌*◌, ◌≤◌, ◌<◌}
 use native.Mathlib.Numerals.{add-one}
 use native.Mathlib.Omega.{arith}
 use lib.Dec.{leb, ltb, eqb}
-use borrow.Author.Tests.{lt-ltb, le-leb, lt-leb, leb-true, ltb-true, ltb-false}
+use borrow.Author.Tests.{lt-ltb, le-leb, lt-leb, leb-true}
 use Rattle.array_data.proofs.lent_tables.Laws.{no, yes}
 use Rattle.number.specs.Number.{entry}
-use Rattle.schema.specs.formats.Code.{between, is_fixed, is_string}
+use Rattle.schema.specs.formats.Code.{is_fixed, is_string}
 use Rattle.walk.specs.State.{Join, code_of, keeps_of, bytes_of, bytes, add_rows, place, offset_of, far, slot_of, rows_in}
 use Rattle.walk.specs.Log.{Out, Did, fail, done, need, found, next}
 use Rattle.walk.specs.Leaves.{copy_mask, put_extended, copy_string}

@@ -7,7 +7,7 @@ use native.Mathlib.Nat.{mul-add, sub-zero}
 use native.Mathlib.Numerals.{add-one}
 use native.Mathlib.Omega.{arith}
 use lib.ListN.{length, take, drop}
-use lib.Dec.{leb, eqb}
+use lib.Dec.{eqb}
 use borrow.Author.Tests.{le-leb, leb-true, eqb-true, eqb-false, ne_eqb}
 use Rattle.number.specs.Number.{entry}
 use Rattle.utils.specs.Offsets.{moved_offsets}
@@ -19,9 +19,9 @@ use Rattle.walk.proofs.Offsets.{string_is}
 use Rattle.leaf_walk.proofs.variable_size.Laws.{string_yes}
 use Rattle.batch.specs.Stretch.{never_falls, stretch, stretches}
 use Rattle.batch.specs.Batch.{batch_leaf}
-use Rattle.batch.specs.batch_walk.Plain.{is_text, steady_string}
+use Rattle.batch.specs.batch_walk.Plain.{is_text}
 use Rattle.batch.specs.batch_walk.Side.{side_of}
-use Rattle.batch.specs.batch_walk.Texts.{chars_of, Fitting}
+use Rattle.batch.specs.batch_walk.Texts.{Fitting}
 use Rattle.batch.proofs.Ends.{need_was, need_is, found_was, found_is, next_first, next_last, leaves_own}
 use Rattle.batch.proofs.Strings.{off, Fit, extended_fits, string_was}
 use Rattle.batch.proofs.batch_walk.TextLeaf.{text_is, slot_is, text_yes}

@@ -2,7 +2,7 @@
 use mathlib.Core.Path.{◌≡◌, refl, sym, ap, subst, ◌∙◌}
 use mathlib.Core.Bool.{Bool, true, false, cond, not, ◌&&◌}
 use mathlib.Core.List.{List, [], ◌∷◌}
-use Prim.Native.Nat.{ℕ, zero, suc, ◌+◌, ◌*◌, ◌-◌, ◌≤◌, ◌<◌, min}
+use Prim.Native.Nat.{ℕ, zero, suc, ◌+◌, ◌*◌, ◌-◌, ◌≤◌, ◌<◌}
 use native.Mathlib.Nat.{add-zero, zero-add, mul-le-mul_left, le_refl}
 use native.Mathlib.Numerals.{add-one}
 use native.Mathlib.Omega.{arith}
@@ -10,7 +10,7 @@ use lib.ListN.{length, get_or, set}
 use lib.Dec.{leb, ltb, eqb}
 use borrow.Author.Tests.{lt-ltb, ltb-true, leb-true, le-leb, eqb-true}
 use Rattle.number.specs.Number.{entry}
-use Rattle.walk.specs.State.{Join, bytes_of, rows, add_rows, grown, top, place, offset_of, far, slot_of, rows_in}
+use Rattle.walk.specs.State.{Join, bytes_of, add_rows, grown, place, offset_of, far, slot_of, rows_in}
 use Rattle.walk.specs.Log.{Log, Out, Did, apply_if, next}
 use Rattle.walk.specs.Leaves.{copy_numbers}
 use Rattle.batch.specs.Stretch.{sum_of, stretch, stretches}

@@ -1,5 +1,5 @@
 -- How the rows of a dense union fall to its children: each row has a home, the child that takes it, and a position there. Assumes nothing.
-use Rattle.std.specs.Prelude.{◌≡◌, Bool, true, cond, ◌&&◌, List, ℕ, zero, suc, ◌+◌, ◌-◌, ◌<◌, length, get_or, ltb, eqb}
+use Rattle.std.specs.Prelude.{◌≡◌, Bool, true, cond, ◌&&◌, List, ℕ, suc, ◌+◌, ◌-◌, ◌<◌, length, get_or, ltb, eqb}
 use Rattle.columnar.specs.Types.{half}
 use Rattle.columnar.specs.Test.{every}
 use Rattle.walk.specs.State.{end_of, rows}

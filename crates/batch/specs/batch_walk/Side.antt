@@ -1,5 +1,5 @@
 -- Where the rows of one more row of the parent stand beside a stretch. Assumes nothing.
-use Rattle.std.specs.Prelude.{Bool, cond, ◌&&◌, ℕ, zero, suc, ◌+◌, min, leb, ltb, eqb}
+use Rattle.std.specs.Prelude.{cond, ◌&&◌, ℕ, zero, suc, ◌+◌, min, leb, ltb, eqb}
 use Rattle.walk.specs.State.{top}
 
 -- the stretch a .. a + m - 1, the rows s .. s + z - 1: 1 they follow it, 0 they are none and not behind it, 2 it is none and stands before them, else 3

@@ -20,24 +20,7 @@ use Rattle.refinement.specs.orders.Sound.{plan_sound, walkable}
 use Rattle.refinement.proofs.orders.Sound.{root_reached, closed_nodes}
 use Rattle.refinement.proofs.orders.Still.{Same, still_copies, still_nulls}
 use Rattle.transform.specs.tried_counters.Beyond.{Beyond}
-use Rattle.transform.proofs.Laws.{Written, written_more}
 use Rattle.transform.proofs.Long.{long_copy, long_nulls}
-
--- ---- one after the other
-
--- the first i counters are written, and behind those of n nodes they are the same already
-abbrev pub Copied : List ℕ → List ℕ → ℕ → ℕ → Type 0
-Copied from to n i = (Written from to i) × (Beyond n to from)
-
-pub copied_more : (from to : List ℕ) (n i v : ℕ) → n ≤ 32 → i < 3 * n → Copied from to n i → v ≡ get_or from i 0 → Copied from (set to i v) n (i + 1)
-copied_more from to n i v l h w e = (written_more from to i v (omega arith) w.0 e, λ j q. get_or-set_other to i j v 0 (λ (z : j ≡ i). omega arith) ∙ w.1 j q)
-
-pub copied_all : (from to : List ℕ) (n i : ℕ) → 3 * n ≤ i → length from ≡ 96 → Copied from to n i → to ≡ from
-copied_all from to n i h l w = ext_get_or 0 to from (w.0.0 ∙ sym l) (λ j q. go j (ltb j i) refl)
-  where
-    go : (j : ℕ) (b : Bool) → ltb j i ≡ b → get_or to j 0 ≡ get_or from j 0
-    go j true e = w.0.1 j (ltb-true j i e)
-    go j false e = let q = ltb-false j i e in w.1 j (omega arith)
 
 -- past the counters of all nodes there are none
 none_past : (c : List ℕ) (k : ℕ) → length c ≤ k → get_or c k 0 ≡ 0

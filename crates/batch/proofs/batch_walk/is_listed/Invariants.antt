@@ -1,10 +1,7 @@
 use mathlib.Core.Path.{◌≡◌}
-use Prim.Native.Nat.{◌-◌, ◌≤◌}
+use Prim.Native.Nat.{◌-◌}
 use Rattle.batch.specs.batch_walk.Plain.{is_listed}
 use Rattle.batch.proofs.batch_walk.is_listed.Given as goal
 
 abbrev pub invariant-loop-k : goal.invariant-loop-k
-invariant-loop-k l = (l.k ≤ 7) × (is_listed l.plan 7 0 ≡ is_listed l.plan (7 - l.k) l.k)
-
-abbrev pub decreases-loop-k : goal.decreases-loop-k
-decreases-loop-k l = 7 - l.k
+invariant-loop-k l = is_listed l.plan 7 0 ≡ is_listed l.plan (7 - l.k) l.k

@@ -1,6 +1,6 @@
 -- `batch::dense_texts::copy_each` meets its contract. Assumes nothing.
 use mathlib.Core.Path.{refl}
-use Prim.Native.Nat.{ℕ, ◌+◌, ◌-◌, ◌≤◌}
+use Prim.Native.Nat.{ℕ, ◌+◌, ◌≤◌}
 use native.Mathlib.Omega.{arith}
 use lib.ListN.{length}
 use lib.Dec.{eqb}
@@ -14,21 +14,15 @@ use Rattle.batch.proofs.batch_walk.Falls.{size_most}
 use Rattle.batch.proofs.dense_texts.copy_each.Goals as goal
 
 pub loop-r-init : goal.loop-r-init
-loop-r-init c =
+loop-r-init g c =
     let a = c.args in
     let h : ℕ → ℕ = λ q. home_by a.homes.now a.body.now (a.ids + (a.slot + q)) in
     let p : ℕ → ℕ = λ q. entry 4 a.body.now a.positions (a.slot + q) in
     let b = begun_in a.whole a.n a.total c.requires.total_le_n c.if_whole-m.ensures c.if_whole-r.ensures in
     (b.0, refl, b.1, λ source. begun (λ b j d. batch_leaf (join a.plan.now a.parts.now a.lengths.now a.places.now a.body.now a.first source) a.k b j d) (takes_from h p a.k) (takes_of h a.k) a.whole a.n a.begin a.total a.counters.now a.room.now (λ w. c.requires.c_value w (λ b j d. batch_leaf (join a.plan.now a.parts.now a.lengths.now a.places.now a.body.now a.first source) a.k b j d) a.counters.now) c.if_whole-a.ensures c.if_whole-m.ensures c.if_whole-r.ensures)
 
-pub advance-t-requires : goal.advance-t-requires
-advance-t-requires c = (c.requires.n_in_bounds.0, c.requires.n_in_bounds.1, c.requires.n_in_bounds.2, c.loop-r.invariant.0, c.loop-r.invariant.2)
-
-pub copy_stretch-g-requires : goal.copy_stretch-g-requires
-copy_stretch-g-requires c = (c.requires.first_bound.0, c.requires.first_bound.1, c.width_at-w.ensures, c.requires.first_bound.2)
-
 pub returns-then-g-ne0 : goal.returns-then-g-ne0
-returns-then-g-ne0 c =
+returns-then-g-ne0 g c =
     let a = c.args in
     let l = c.loop-r in
     let h : ℕ → ℕ = λ q. home_by a.homes.now a.body.now (a.ids + (a.slot + q)) in
@@ -36,33 +30,15 @@ returns-then-g-ne0 c =
     λ source. loop_stop (λ b j d. batch_leaf (join a.plan.now a.parts.now a.lengths.now a.places.now a.body.now a.first source) a.k b j d) (takes_from h p a.k) (takes_of h a.k) a.n l.r l.a l.m l.counters l.room (l.invariant.3 source) c.advance-t.result.next c.advance-t.result.a c.advance-t.result.m (c.advance-t.ensures.by_index (λ b j d. batch_leaf (join a.plan.now a.parts.now a.lengths.now a.places.now a.body.now a.first source) a.k b j d) l.counters) c.advance-t.ensures.next_le_n.0 (c.copy_stretch-g.ensures source) c.if-g-ne0.true c.advance-t.ensures.next_value
 
 pub returns-then-t-n : goal.returns-then-t-n
-returns-then-t-n c =
+returns-then-t-n g c =
     let a = c.args in
     let l = c.loop-r in
     let h : ℕ → ℕ = λ q. home_by a.homes.now a.body.now (a.ids + (a.slot + q)) in
     let p : ℕ → ℕ = λ q. entry 4 a.body.now a.positions (a.slot + q) in
     λ source. loop_zero (λ b j d. batch_leaf (join a.plan.now a.parts.now a.lengths.now a.places.now a.body.now a.first source) a.k b j d) (takes_from h p a.k) (takes_of h a.k) a.n l.r l.a l.m l.counters l.room (l.invariant.3 source) c.advance-t.result.next c.advance-t.result.a c.advance-t.result.m (c.advance-t.ensures.by_index (λ b j d. batch_leaf (join a.plan.now a.parts.now a.lengths.now a.places.now a.body.now a.first source) a.k b j d) l.counters) c.advance-t.ensures.next_le_n.0 (c.copy_stretch-g.ensures source) c.if-t-n.true c.if-g-ne0.false
 
-pub overflow_add-slot : goal.overflow_add-slot
-overflow_add-slot c = omega (arith, c.advance-t.ensures.next_le_n.0, c.requires.n_in_bounds.2)
-
-pub start_at-a-requires : goal.start_at-a-requires
-start_at-a-requires c = (omega (arith, c.advance-t.ensures.next_le_n.0, c.requires.n_in_bounds.0, c.requires.n_in_bounds.2), entry_in_lem c.args.positions 4 c.args.slot c.args.n c.advance-t.result.next (length c.args.body.now) c.requires.n_in_bounds.1 (omega (arith, c.advance-t.ensures.next_le_n.0)))
-
-pub overflow_add-slot-in-loop-r : goal.overflow_add-slot-in-loop-r
-overflow_add-slot-in-loop-r c = omega (arith, c.advance-t.ensures.next_le_n.0, c.requires.n_in_bounds.2)
-
-pub size_at-m-requires : goal.size_at-m-requires
-size_at-m-requires c = omega (arith, c.advance-t.ensures.next_le_n.0, c.requires.n_in_bounds.0, c.requires.n_in_bounds.2)
-
-pub overflow_add-r : goal.overflow_add-r
-overflow_add-r c = omega (arith, c.advance-t.ensures.next_le_n.0, c.requires.n_in_bounds.2)
-
-pub loop-r-smaller : goal.loop-r-smaller
-loop-r-smaller c = omega (arith, c.advance-t.ensures.next_le_n, c.requires.n_in_bounds.2)
-
 pub loop-r-preserved : goal.loop-r-preserved
-loop-r-preserved c =
+loop-r-preserved g c =
     let a = c.args in
     let l = c.loop-r in
     let h : ℕ → ℕ = λ q. home_by a.homes.now a.body.now (a.ids + (a.slot + q)) in
@@ -73,6 +49,3 @@ loop-r-preserved c =
       omega arith,
       λ source. loop_more (λ b j d. batch_leaf (join a.plan.now a.parts.now a.lengths.now a.places.now a.body.now a.first source) a.k b j d) (takes_from h p a.k) (takes_of h a.k) a.n l.r l.a l.m l.counters l.room (l.invariant.3 source) c.advance-t.result.next c.advance-t.result.a c.advance-t.result.m (c.advance-t.ensures.by_index (λ b j d. batch_leaf (join a.plan.now a.parts.now a.lengths.now a.places.now a.body.now a.first source) a.k b j d) l.counters) c.advance-t.ensures.next_le_n.0 (c.copy_stretch-g.ensures source) c.if-g-ne0.false c.if-t-n.false c.advance-t.ensures.next_value refl c.start_at-a.ensures c.size_at-m.ensures,
     )
-
-pub returns : goal.returns
-returns c = absurd (omega arith)

@@ -8,23 +8,8 @@ use Rattle.batch.proofs.batch_walk.Falls.{takes_most}
 use Rattle.batch.proofs.batch_walk.ListTried.{taken_did}
 use Rattle.batch.proofs.dense_texts.copy_texts.Goals as goal
 
-pub width_at-v-requires : goal.width_at-v-requires
-width_at-v-requires c = c.requires.first_bound.1
-
-pub taken_tried-t-requires : goal.taken_tried-t-requires
-taken_tried-t-requires c = record { first_bound = (c.requires.first_bound.0, c.requires.first_bound.1, c.width_at-v.ensures, c.requires.first_bound.2); n_in_bounds = c.requires.n_in_bounds; end_value = c.requires.total_value.1 }
-
-pub set_bytes-requires : goal.set_bytes-requires
-set_bytes-requires c = c.requires.first_bound.1
-
-pub add_rows-requires : goal.add_rows-requires
-add_rows-requires c = c.requires.first_bound.1
-
 pub returns-then-t : goal.returns-then-t
 returns-then-t c = let a = c.args in λ source. taken_did (join a.plan.now a.parts.now a.lengths.now a.places.now a.body.now a.first source) a.k (takes_from (λ q. home_by a.homes.now a.body.now (a.ids + (a.slot + q))) (λ q. entry 4 a.body.now a.positions (a.slot + q)) a.k) (takes_of (λ q. home_by a.homes.now a.body.now (a.ids + (a.slot + q))) a.k) a.n a.counters.now a.room.now a.write c.taken_tried-t.result c.if-not-write.true-raw c.requires.total_value.0 (c.taken_tried-t.ensures c.if-t.true a.parts.now source a.room.now) c.set_bytes.ensures c.add_rows.ensures
 
 pub copy_each-requires : goal.copy_each-requires
 copy_each-requires c = let a = c.args in let t : a.total ≤ a.n = subst (λ v. v ≤ a.n) (sym c.requires.total_value.0) (takes_most (λ q. home_by a.homes.now a.body.now (a.ids + (a.slot + q))) a.k a.n) in record { first_bound = c.requires.first_bound; n_in_bounds = c.requires.n_in_bounds; total_le_n = t; c_value = c.requires.c_value }
-
-pub returns : goal.returns
-returns c = λ source. c.copy_each.ensures source

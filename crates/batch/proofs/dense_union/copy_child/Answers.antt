@@ -12,15 +12,6 @@ use Rattle.batch.proofs.batch_walk.TextLeaf.{flat_rest}
 use Rattle.batch.proofs.batch_walk.Tried.{tried}
 use Rattle.batch.proofs.dense_union.copy_child.Goals as goal
 
-pub copy_texts-requires : goal.copy_texts-requires
-copy_texts-requires c = record { first_bound = (c.requires.first_bound.0, c.requires.first_bound.1, sym c.is_text.ensures ∙ c.if-is_text.true); n_in_bounds = c.requires.n_in_bounds; total_value = c.requires.total_value; c_value = c.requires.c_value }
-
-pub returns-then-is_text : goal.returns-then-is_text
-returns-then-is_text c = c.copy_texts.ensures
-
-pub all_reached-requires : goal.all_reached-requires
-all_reached-requires c = (c.requires.first_bound.0, c.requires.first_bound.1, (plain_wide c.args.plan.now c.args.k c.width_at-w.ensures (flat_rest c.args.plan.now c.args.k c.requires.first_bound.2 c.is_text.ensures c.if-is_text.false)).1)
-
 pub returns-then-all_reached : goal.returns-then-all_reached
 returns-then-all_reached c =
     let a = c.args in
@@ -39,19 +30,7 @@ returns-then-whole c =
     let a = c.args in
     λ source. rw (c.requires.c_value c.if-whole.true (λ b j d. batch_leaf (join a.plan.now a.parts.now a.lengths.now a.places.now a.body.now a.first source) a.k b j d) a.counters.now) (c.copy_stretch.ensures source)
 
-pub put_taken-requires : goal.put_taken-requires
-put_taken-requires c = record { first_bound = (c.requires.first_bound.0, c.requires.first_bound.1, c.width_at-w.ensures, flat_rest c.args.plan.now c.args.k c.requires.first_bound.2 c.is_text.ensures c.if-is_text.false); n_in_bounds = c.requires.n_in_bounds; total_value = c.requires.total_value }
-
-pub add_rows-requires-then-put_taken : goal.add_rows-requires-then-put_taken
-add_rows-requires-then-put_taken c = c.requires.first_bound.1
-
 pub returns-then-put_taken : goal.returns-then-put_taken
 returns-then-put_taken c =
     let a = c.args in
     λ source. rw c.add_rows-then-put_taken.ensures (c.put_taken.ensures.did c.if-put_taken.true source)
-
-pub copy_stretches-requires : goal.copy_stretches-requires
-copy_stretches-requires c = record { first_bound = (c.requires.first_bound.0, c.requires.first_bound.1, flat_rest c.args.plan.now c.args.k c.requires.first_bound.2 c.is_text.ensures c.if-is_text.false); n_in_bounds = c.requires.n_in_bounds }
-
-pub returns : goal.returns
-returns c = rw (c.put_taken.ensures.room_value c.if-put_taken.false) at c.copy_stretches.ensures

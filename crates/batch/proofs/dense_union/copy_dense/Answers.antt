@@ -1,7 +1,6 @@
 -- `dense_union::copy_dense` meets its contract. Assumes nothing.
 use mathlib.Core.Path.{refl}
-use mathlib.Core.Bool.{true}
-use Prim.Native.Nat.{ℕ, ◌-◌}
+use Prim.Native.Nat.{ℕ}
 use native.Mathlib.Omega.{arith}
 use Rattle.array_data.proofs.lent_tables.Laws.{yes}
 use Rattle.leaf_walk.specs.Join.{join}
@@ -29,9 +28,6 @@ pub returns-then-not-seen : goal.returns-then-not-seen
 returns-then-not-seen c =
     let a = c.args in
     λ source. dense_astray (join a.plan.now a.parts.now a.lengths.now a.places.now a.body.now a.first source) a.i a.slot a.n a.write a.counters.now a.room.now c.is_owned.ensures c.if-not-is_owned.false-raw (c.pairs_in.ensures a.plan.now a.parts.now a.lengths.now source) c.if-not-pairs_in.false-raw (homes_same (join a.plan.now a.parts.now a.lengths.now a.places.now a.body.now a.first source) a.i a.slot c.homes_of-homes.result c.homes_of-homes.ensures (λ q. (c.shared_slice_known-5-1.given q).fits) c.place-ids.ensures) c.survey-seen.ensures.sound_value c.if-not-seen.true
-
-pub rows_of-rows-requires : goal.rows_of-rows-requires
-rows_of-rows-requires c = c.requires.1
 
 pub overflow_add-from : goal.overflow_add-from
 overflow_add-from c =

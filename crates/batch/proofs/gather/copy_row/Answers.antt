@@ -18,12 +18,6 @@ room_for b to w m e h = let g = rw e at h in omega (arith, mul-one w)
 body_has : (b : Bool) (at w p len v : ℕ) → b ≡ true → v ≡ p → at + w * (cond b p 0 + cond b 1 0) ≤ len → at + w * v + w ≤ len
 body_has b at w p len v e f h = let g = rw e at h in rw f (omega (arith, mul-add w p 1, mul-one w))
 
-pub overflow_add-ids : goal.overflow_add-ids
-overflow_add-ids c = omega arith
-
-pub home_at-requires : goal.home_at-requires
-home_at-requires c = omega arith
-
 pub returns-then-home_at-k : goal.returns-then-home_at-k
 returns-then-home_at-k c =
     let a = c.args in

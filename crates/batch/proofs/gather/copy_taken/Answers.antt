@@ -1,7 +1,7 @@
 -- `gather::copy_taken` meets its contract. Assumes nothing.
-use mathlib.Core.Path.{◌≡◌, refl, sym, ap, ◌∙◌}
+use mathlib.Core.Path.{◌≡◌, sym, ap, ◌∙◌}
 use mathlib.Core.List.{List}
-use Prim.Native.Nat.{ℕ, ◌+◌, ◌*◌, ◌-◌}
+use Prim.Native.Nat.{ℕ, ◌+◌, ◌*◌}
 use native.Mathlib.Nat.{mul-zero}
 use native.Mathlib.Omega.{arith}
 use lib.ListN.{length, take, drop}
@@ -12,20 +12,13 @@ use Rattle.batch.specs.batch_walk.Fall.{home_by, takes_of, takes_from}
 use Rattle.batch.proofs.batch_walk.Gathered.{taken_room, taken_sum, taken_step}
 use Rattle.batch.proofs.gather.copy_taken.Goals as goal
 
-pub loop-r-init : goal.loop-r-init
-unfolding sum_of
-loop-r-init c = (omega arith, refl, omega (arith, mul-zero c.args.w), sym (pieces_none _ _ _))
-
-pub overflow_add-slot : goal.overflow_add-slot
-overflow_add-slot c = omega arith
-
 pub copy_row-to-requires : goal.copy_row-to-requires
 copy_row-to-requires c =
     let a = c.args in
     let l = c.loop-r in
     let h : ℕ → ℕ = λ q. home_by a.homes.now a.body.now (a.ids + (a.slot + q)) in
     let p : ℕ → ℕ = λ q. entry 4 a.body.now a.positions (a.slot + q) in
-    record { q_in_bounds = (omega arith, omega arith, omega arith); fact = (rw (l.invariant.2, l.invariant.1) (taken_room a.w (takes_from h p a.k) (takes_of h a.k) a.body.now a.at a.n c.requires.n_in_bounds_2.1 l.r a.to (length a.room.now) (omega arith) c.requires.n_in_bounds_2.0), c.requires.n_in_bounds_2.1 l.r (omega arith)) }
+    record { q_in_bounds = (omega arith, omega arith, omega arith); fact = (rw (l.invariant.0, l.auto.room) (taken_room a.w (takes_from h p a.k) (takes_of h a.k) a.body.now a.at a.n c.requires.n_in_bounds_2.1 l.r a.to (length a.room.now) (omega arith) c.requires.n_in_bounds_2.0), c.requires.n_in_bounds_2.1 l.r (omega arith)) }
 
 pub overflow_add-to : goal.overflow_add-to
 overflow_add-to c =
@@ -33,13 +26,7 @@ overflow_add-to c =
     let l = c.loop-r in
     let h : ℕ → ℕ = λ q. home_by a.homes.now a.body.now (a.ids + (a.slot + q)) in
     let p : ℕ → ℕ = λ q. entry 4 a.body.now a.positions (a.slot + q) in
-    omega (arith, l.invariant.2, c.copy_row-to.ensures.value, taken_room a.w (takes_from h p a.k) (takes_of h a.k) a.body.now a.at a.n c.requires.n_in_bounds_2.1 l.r a.to (length a.room.now) (omega arith) c.requires.n_in_bounds_2.0)
-
-pub overflow_add-r : goal.overflow_add-r
-overflow_add-r c = omega arith
-
-pub loop-r-smaller : goal.loop-r-smaller
-loop-r-smaller c = omega arith
+    omega (arith, l.invariant.0, c.copy_row-to.ensures.value, taken_room a.w (takes_from h p a.k) (takes_of h a.k) a.body.now a.at a.n c.requires.n_in_bounds_2.1 l.r a.to (length a.room.now) (omega arith) c.requires.n_in_bounds_2.0)
 
 pub loop-r-preserved : goal.loop-r-preserved
 loop-r-preserved c =
@@ -47,17 +34,13 @@ loop-r-preserved c =
     let l = c.loop-r in
     let h : ℕ → ℕ = λ q. home_by a.homes.now a.body.now (a.ids + (a.slot + q)) in
     let p : ℕ → ℕ = λ q. entry 4 a.body.now a.positions (a.slot + q) in (
-      omega arith,
-      omega arith,
-      omega (arith, l.invariant.2, c.copy_row-to.ensures.value, taken_sum a.w (takes_from h p a.k) (takes_of h a.k) a.body.now a.at a.n c.requires.n_in_bounds_2.1 l.r a.to),
+      omega (arith, l.invariant.0, c.copy_row-to.ensures.value, taken_sum a.w (takes_from h p a.k) (takes_of h a.k) a.body.now a.at a.n c.requires.n_in_bounds_2.1 l.r a.to),
       c.copy_row-to.ensures.room_value
-          ∙ ap (λ (v : ℕ). splice v (take (a.w * takes_of h a.k l.r) (drop (a.at + a.w * takes_from h p a.k l.r) a.body.now)) l.room) l.invariant.2
-          ∙ ap (λ (z : List ℕ). splice (a.to + a.w * sum_of (takes_of h a.k) l.r) (take (a.w * takes_of h a.k l.r) (drop (a.at + a.w * takes_from h p a.k l.r) a.body.now)) z) l.invariant.3
+          ∙ ap (λ (v : ℕ). splice v (take (a.w * takes_of h a.k l.r) (drop (a.at + a.w * takes_from h p a.k l.r) a.body.now)) l.room) l.invariant.0
+          ∙ ap (λ (z : List ℕ). splice (a.to + a.w * sum_of (takes_of h a.k) l.r) (take (a.w * takes_of h a.k l.r) (drop (a.at + a.w * takes_from h p a.k l.r) a.body.now)) z) l.invariant.1
           ∙ taken_step a.w (takes_from h p a.k) (takes_of h a.k) a.body.now a.at a.n c.requires.n_in_bounds_2.1 l.r a.to a.room.now (omega arith) c.requires.n_in_bounds_2.0,
     )
 
-pub shape_of-room : goal.shape_of-room
-shape_of-room c = omega arith
-
-pub returns : goal.returns
-returns c = let e : c.loop-r.r ≡ c.args.n = omega arith in rw e at c.loop-r.invariant.3
+pub loop-r-init : goal.loop-r-init
+unfolding sum_of
+loop-r-init c = (omega (arith, mul-zero c.args.w), sym (pieces_none _ _ _))

@@ -13,36 +13,15 @@ use Rattle.batch.proofs.batch_walk.Loops.{advance_step}
 use Rattle.batch.proofs.batch_walk.Falls.{size_most}
 use Rattle.batch.proofs.homes.advance.Goals as goal
 
-pub loop-r-init : goal.loop-r-init
-loop-r-init c = (omega arith, omega arith, omega arith, λ walk c. refl)
-
-pub overflow_add-slot : goal.overflow_add-slot
-overflow_add-slot c = omega arith
-
-pub start_at-start-requires : goal.start_at-start-requires
-start_at-start-requires c = (omega arith, entry_in_lem c.args.positions 4 c.args.slot c.args.n c.loop-r.r (length c.args.body.now) c.requires.1 (omega arith))
-
-pub overflow_add-slot-in-loop-r : goal.overflow_add-slot-in-loop-r
-overflow_add-slot-in-loop-r c = omega arith
-
-pub size_at-size-requires : goal.size_at-size-requires
-size_at-size-requires c = omega arith
-
 pub returns-then-side-eq3 : goal.returns-then-side-eq3
 returns-then-side-eq3 c =
     let a = c.args in
-    record { by_index = c.loop-r.invariant.3; next_le_n = (omega arith, omega arith); next_value = λ z. sym (rw (c.start_at-start.ensures, c.size_at-size.ensures) at c.side_of-side.ensures) ∙ c.if-side-eq3.true }
+    record { by_index = c.loop-r.invariant.1; next_le_n = (omega arith, omega arith); next_value = λ z. sym (rw (c.start_at-start.ensures, c.size_at-size.ensures) at c.side_of-side.ensures) ∙ c.if-side-eq3.true }
 
 pub next_size-p-requires : goal.next_size-p-requires
 next_size-p-requires c =
     let s : c.size_at-size.result ≤ 1 = size_most (eqb (home_by c.args.homes.now c.args.body.now (c.args.ids + (c.args.slot + c.loop-r.r))) c.args.k) c.size_at-size.ensures in
     omega arith
-
-pub overflow_add-r : goal.overflow_add-r
-overflow_add-r c = omega arith
-
-pub loop-r-smaller : goal.loop-r-smaller
-loop-r-smaller c = omega arith
 
 pub loop-r-preserved : goal.loop-r-preserved
 loop-r-preserved c =
@@ -53,11 +32,9 @@ loop-r-preserved c =
     let s : c.size_at-size.result ≤ 1 = size_most (eqb (home_by c.args.homes.now c.args.body.now (c.args.ids + (c.args.slot + c.loop-r.r))) c.args.k) c.size_at-size.ensures in
     let y : a.n - l.r ≡ suc (a.n - (l.r + 1)) = omega arith in
     let t : next_size c.side_of-side.result l.p c.size_at-size.result ≤ l.p + c.size_at-size.result = next_size_most c.side_of-side.result l.p c.size_at-size.result in (
-      omega arith,
-      omega arith,
       omega (arith, t, c.next_size-p.ensures),
-      λ walk c2. l.invariant.3 walk c2 ∙ advance_step walk (takes_from h p a.k) (takes_of h a.k) c2 (a.n - (l.r + 1)) l.r l.b l.p y c.start_at-start.ensures c.size_at-size.ensures c.side_of-side.ensures c.if-side-eq3.false c.next_start-b.ensures c.next_size-p.ensures refl,
+      λ walk c2. l.invariant.1 walk c2 ∙ advance_step walk (takes_from h p a.k) (takes_of h a.k) c2 (a.n - (l.r + 1)) l.r l.b l.p y c.start_at-start.ensures c.size_at-size.ensures c.side_of-side.ensures c.if-side-eq3.false c.next_start-b.ensures c.next_size-p.ensures refl,
     )
 
 pub returns : goal.returns
-returns c = record { by_index = c.loop-r.invariant.3; next_le_n = (omega arith, omega arith); next_value = λ z. absurd (z (omega arith)) }
+returns c = let e : c.loop-r.r ≡ c.args.n = omega arith in record { by_index = rw e at c.loop-r.invariant.1; next_le_n = (omega arith, omega arith); next_value = λ z. absurd (z (omega arith)) }

@@ -8,7 +8,4 @@ use Rattle.batch.specs.batch_walk.Fall.{home_by, takes_of, takes_from}
 use Rattle.batch.proofs.homes.advance.Given as goal
 
 abbrev pub invariant-loop-r : goal.invariant-loop-r
-invariant-loop-r l = (l.from ≤ l.r) × (l.r ≤ l.n) × (l.p ≤ l.r) × ((walk : ℕ → ℕ → List ℕ → Out) (c : List ℕ) → stretch walk (takes_from (λ q. home_by l.homes l.body (l.ids + (l.slot + q))) (λ q. entry 4 l.body l.positions (l.slot + q)) l.k) (takes_of (λ q. home_by l.homes l.body (l.ids + (l.slot + q))) l.k) (l.n - l.from) l.from l.a l.m c ≡ stretch walk (takes_from (λ q. home_by l.homes l.body (l.ids + (l.slot + q))) (λ q. entry 4 l.body l.positions (l.slot + q)) l.k) (takes_of (λ q. home_by l.homes l.body (l.ids + (l.slot + q))) l.k) (l.n - l.r) l.r l.b l.p c)
-
-abbrev pub decreases-loop-r : goal.decreases-loop-r
-decreases-loop-r l = l.n - l.r
+invariant-loop-r l = (l.p ≤ l.r) × ((walk : ℕ → ℕ → List ℕ → Out) (c : List ℕ) → stretch walk (takes_from (λ q. home_by l.homes l.body (l.ids + (l.slot + q))) (λ q. entry 4 l.body l.positions (l.slot + q)) l.k) (takes_of (λ q. home_by l.homes l.body (l.ids + (l.slot + q))) l.k) (l.n - l.from) l.from l.a l.m c ≡ stretch walk (takes_from (λ q. home_by l.homes l.body (l.ids + (l.slot + q))) (λ q. entry 4 l.body l.positions (l.slot + q)) l.k) (takes_of (λ q. home_by l.homes l.body (l.ids + (l.slot + q))) l.k) (l.n - l.r) l.r l.b l.p c)

@@ -5,8 +5,5 @@ use lib.ListN.{get_or}
 use Rattle.number.proofs.Laws.{one}
 use Rattle.batch.proofs.homes.home_at.Goals as goal
 
-pub read_u8-id-requires : goal.read_u8-id-requires
-read_u8-id-requires c = omega arith
-
 pub returns : goal.returns
-returns c = ap (λ v. get_or c.args.homes.now v 0) (c.read_u8-id.ensures ∙ one c.args.q c.args.body.now (omega arith))
+returns c = ap (λ v. get_or c.args.homes.now v 0) (c.read-id.ensures ∙ one c.args.q c.args.body.now (omega arith))

@@ -6,37 +6,22 @@ use Rattle.nested_rows.proofs.lookups.Laws.{child_none}
 use Rattle.batch.proofs.batch_walk.Homes.{homing_none, homing_more, homed, child_zero}
 use Rattle.batch.proofs.homes.homes_of.Goals as goal
 
-pub overflow_add-k : goal.overflow_add-k
-overflow_add-k c = omega arith
-
-pub loop-t-init : goal.loop-t-init
-loop-t-init c = (omega arith, homing_none c.args.plan.now c.end_of-end.result (c.args.i + 1))
-
 pub returns-then-end-k : goal.returns-then-end-k
 returns-then-end-k c =
     let a = c.args in
     let l = c.loop-t in
-    homed a.plan.now a.i l.t l.k l.homes c.end_of-end.ensures.value l.invariant.1 (λ id. child_none a.plan.now c.end_of-end.result l.k id (32 - l.t) c.if-end-k.true)
-
-pub bounds-homes-id : goal.bounds-homes-id
-bounds-homes-id c = omega (arith, c.loop-t.invariant.1.0)
-
-pub bounds-homes-id-in-loop-t : goal.bounds-homes-id-in-loop-t
-bounds-homes-id-in-loop-t c = omega (arith, c.loop-t.invariant.1.0)
-
-pub overflow_add-t : goal.overflow_add-t
-overflow_add-t c = omega arith
-
-pub loop-t-smaller : goal.loop-t-smaller
-loop-t-smaller c = omega arith
+    homed a.plan.now a.i l.t l.k l.homes c.end_of-end.ensures.value l.invariant (λ id. child_none a.plan.now c.end_of-end.result l.k id (32 - l.t) c.if-end-k.true)
 
 pub loop-t-preserved : goal.loop-t-preserved
 loop-t-preserved c =
     let l = c.loop-t in
-    (omega arith, homing_more c.args.plan.now c.end_of-end.result (c.args.i + 1) l.t l.k l.homes l.invariant.1 (omega arith) (omega arith) (omega arith) c.id_of-id.ensures c.end_of-k.ensures.value refl (omega arith) c.first_of.ensures)
+    homing_more c.args.plan.now c.end_of-end.result (c.args.i + 1) l.t l.k l.homes l.invariant (omega arith) (omega arith) (omega arith) c.id_of-id.ensures c.end_of-k.ensures.value refl (omega arith) c.first_of.ensures
 
 pub returns : goal.returns
 returns c =
     let a = c.args in
     let l = c.loop-t in
-    homed a.plan.now a.i l.t l.k l.homes c.end_of-end.ensures.value l.invariant.1 (λ id. child_zero a.plan.now id c.end_of-end.result (32 - l.t) l.k (omega arith))
+    homed a.plan.now a.i l.t l.k l.homes c.end_of-end.ensures.value l.invariant (λ id. child_zero a.plan.now id c.end_of-end.result (32 - l.t) l.k (omega arith))
+
+pub loop-t-init : goal.loop-t-init
+loop-t-init c = homing_none c.args.plan.now c.end_of-end.result (c.args.i + 1)

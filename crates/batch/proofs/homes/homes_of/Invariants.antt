@@ -1,9 +1,6 @@
-use Prim.Native.Nat.{◌+◌, ◌-◌, ◌≤◌}
+use Prim.Native.Nat.{◌+◌}
 use Rattle.batch.proofs.batch_walk.Homes.{Homing}
 use Rattle.batch.proofs.homes.homes_of.Given as goal
 
 abbrev pub invariant-loop-t : goal.invariant-loop-t
-invariant-loop-t l = (l.t ≤ 32) × Homing l.plan l.end (l.i + 1) l.t l.k l.homes
-
-abbrev pub decreases-loop-t : goal.decreases-loop-t
-decreases-loop-t l = 32 - l.t
+invariant-loop-t l = Homing l.plan l.end (l.i + 1) l.t l.k l.homes

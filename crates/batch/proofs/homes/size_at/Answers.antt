@@ -6,12 +6,6 @@ use borrow.Author.Tests.{eq-eqb, ne_eqb}
 use Rattle.batch.specs.batch_walk.Fall.{home_by}
 use Rattle.batch.proofs.homes.size_at.Goals as goal
 
-pub overflow_add-ids : goal.overflow_add-ids
-overflow_add-ids c = omega arith
-
-pub home_at-requires : goal.home_at-requires
-home_at-requires c = omega arith
-
 pub returns-then-home_at-k : goal.returns-then-home_at-k
 returns-then-home_at-k c =
     let a = c.args in

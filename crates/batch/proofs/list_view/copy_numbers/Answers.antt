@@ -23,37 +23,13 @@ returns-then-none_refused c =
     let a = c.args in
     λ source. tried (join a.plan.now a.parts.now a.lengths.now a.places.now a.body.now a.first source) (suc a.i) c.requires.first_bound.3 (omega arith) (λ r. entry a.w a.body.now (place (join a.plan.now a.parts.now a.lengths.now a.places.now a.body.now a.first source) a.i 3) (a.slot + r)) (λ r. entry a.w a.body.now (place (join a.plan.now a.parts.now a.lengths.now a.places.now a.body.now a.first source) a.i 5) (a.slot + r)) a.n a.counters.now a.room.now a.write (rw (add-one a.i) at c.width_at-v.ensures) (c.none_refused.ensures a.plan.now a.parts.now source) c.if-none_refused.true c.requires.fact.1 (rw (add-one a.i) at c.add_rows.ensures)
 
-pub overflow_add-first : goal.overflow_add-first
-overflow_add-first c = omega arith
-
-pub place-offsets-requires : goal.place-offsets-requires
-place-offsets-requires c = (omega arith, omega arith)
-
-pub overflow_add-first-2 : goal.overflow_add-first-2
-overflow_add-first-2 c = omega arith
-
-pub place-sizes-requires : goal.place-sizes-requires
-place-sizes-requires c = (omega arith, omega arith)
-
 pub put_listed-requires : goal.put_listed-requires
 put_listed-requires c =
     let a = c.args in
     let p : is_plain a.plan.now (a.i + 1) ≡ true = rw (add-one a.i) c.requires.first_bound.3 in
     record { first_bound = (c.requires.first_bound.0, c.requires.first_bound.1, c.width_at-v.ensures, p); n_in_bounds = (rw c.place-offsets.ensures c.requires.n_in_bounds.0, rw c.place-sizes.ensures c.requires.n_in_bounds.1, c.requires.first_bound.2); w_value = c.requires.w_value; total_value = rw c.place-sizes.ensures c.requires.fact.1 }
 
-pub overflow_add-i-then-put_listed : goal.overflow_add-i-then-put_listed
-overflow_add-i-then-put_listed c = omega (arith, c.requires.first_bound.1)
-
-pub add_rows-requires-then-put_listed : goal.add_rows-requires-then-put_listed
-add_rows-requires-then-put_listed c = c.requires.first_bound.1
-
 pub returns-then-put_listed : goal.returns-then-put_listed
 returns-then-put_listed c =
     let a = c.args in
     λ source. rw (c.add_rows-then-put_listed.ensures, add-one a.i) (rw (c.place-offsets.ensures, c.place-sizes.ensures, add-one a.i) at (c.put_listed.ensures.did c.if-put_listed.true source))
-
-pub copy_number_stretches-requires : goal.copy_number_stretches-requires
-copy_number_stretches-requires c = record { first_bound = c.requires.first_bound; n_in_bounds = c.requires.n_in_bounds; n_bound = c.requires.fact.0; w_value = c.requires.w_value }
-
-pub returns : goal.returns
-returns c = rw (c.put_listed.ensures.room_value c.if-put_listed.false) at c.copy_number_stretches.ensures

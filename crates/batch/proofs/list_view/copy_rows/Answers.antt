@@ -13,14 +13,8 @@ copy_stretches-requires c =
     let t : is_text a.plan.now (suc a.i) ≡ true = rw (add-one a.i) at (sym c.is_text.ensures ∙ c.if-is_text.true) in
     record { first_bound = (c.requires.first_bound.0, c.requires.first_bound.1, c.requires.first_bound.2, t); n_in_bounds = c.requires.n_in_bounds; n_bound = c.requires.fact.0; w_value = c.requires.w_value }
 
-pub returns-then-is_text : goal.returns-then-is_text
-returns-then-is_text c = c.copy_stretches.ensures
-
 pub copy_numbers-requires : goal.copy_numbers-requires
 copy_numbers-requires c =
     let a = c.args in
     let p : is_plain a.plan.now (suc a.i) ≡ true = flat_rest a.plan.now (suc a.i) c.requires.first_bound.3 (rw (add-one a.i) at c.is_text.ensures) c.if-is_text.false in
     record { first_bound = (c.requires.first_bound.0, c.requires.first_bound.1, c.requires.first_bound.2, p); n_in_bounds = c.requires.n_in_bounds; fact = c.requires.fact; w_value = c.requires.w_value }
-
-pub returns : goal.returns
-returns c = c.copy_numbers.ensures

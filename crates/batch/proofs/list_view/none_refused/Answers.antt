@@ -6,16 +6,10 @@ use Rattle.leaf_walk.specs.Join.{join}
 use Rattle.batch.proofs.batch_walk.Tried.{refused_is}
 use Rattle.batch.proofs.list_view.none_refused.Goals as goal
 
-pub returns-then-write : goal.returns-then-write
-returns-then-write c = λ plan parts source. rw c.if-write.true refl
-
 pub furthest-end-requires : goal.furthest-end-requires
 furthest-end-requires c =
     let a = c.args in
     record { n_in_bounds = (subst (λ v. v + a.w * (a.slot + a.n) ≤ length a.body.now) (sym c.place-offsets.ensures) c.requires.n_in_bounds.0, subst (λ v. v + a.w * (a.slot + a.n) ≤ length a.body.now) (sym c.place-sizes.ensures) c.requires.n_in_bounds.1, c.requires.first_bound.2); w_value = c.requires.w_value }
-
-pub reaches-requires : goal.reaches-requires
-reaches-requires c = (c.requires.first_bound.0, c.requires.first_bound.1, c.requires.first_bound.3)
 
 pub returns : goal.returns
 returns c =

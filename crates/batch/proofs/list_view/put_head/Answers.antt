@@ -10,24 +10,15 @@ use Rattle.leaf_walk.specs.Join.{join}
 use Rattle.batch.proofs.batch_walk.Node.{half_most, pairs_within, sum_parts, list_childless, list_short, list_over, list_goes}
 use Rattle.batch.proofs.list_view.put_head.Goals as goal
 
-pub has_child-requires : goal.has_child-requires
-has_child-requires c = omega arith
-
 pub returns-then-not-has_child : goal.returns-then-not-has_child
 returns-then-not-has_child c =
     let a = c.args in
     record { any_lengths = λ h lengths source child. rw c.refused.ensures (list_childless (join a.plan.now a.parts.now lengths a.places.now a.body.now a.first source) child a.i a.w a.slot a.n a.write a.counters.now a.room.now c.has_child.ensures c.if-not-has_child.true-raw); named = λ h. absurd (omega (arith, c.refused.ensures, h)); any_lengths_2 = λ h. absurd (omega (arith, c.refused.ensures, h)) }
 
-pub pairs_in-requires : goal.pairs_in-requires
-pairs_in-requires c = omega (arith, width_in_lem c.args.w (λ p q. c.requires.w_value))
-
 pub returns-then-not-pairs_in : goal.returns-then-not-pairs_in
 returns-then-not-pairs_in c =
     let a = c.args in
     record { any_lengths = λ h lengths source child. rw c.refused-then-not-pairs_in.ensures (list_short (join a.plan.now a.parts.now lengths a.places.now a.body.now a.first source) child a.i a.w a.slot a.n a.write a.counters.now a.room.now c.has_child.ensures c.if-not-has_child.false-raw (c.pairs_in.ensures a.plan.now a.parts.now lengths source) c.if-not-pairs_in.true-raw); named = λ h. absurd (omega (arith, c.refused-then-not-pairs_in.ensures, h)); any_lengths_2 = λ h. absurd (omega (arith, c.refused-then-not-pairs_in.ensures, h)) }
-
-pub overflow_add-i : goal.overflow_add-i
-overflow_add-i c = omega arith
 
 pub sum_sizes-sum-requires : goal.sum_sizes-sum-requires
 sum_sizes-sum-requires c =
@@ -35,16 +26,10 @@ sum_sizes-sum-requires c =
     let h = pairs_within (join a.plan.now a.parts.now [] a.places.now a.body.now a.first 0) a.i a.w a.slot a.n (c.pairs_in.ensures a.plan.now a.parts.now [] 0) c.if-not-pairs_in.false-raw in
     record { n_in_bounds = (subst (λ v. v + a.w * (a.slot + a.n) ≤ length a.body.now) (sym c.place-sizes.ensures) h.1, c.requires.first_bound.2); w_value = c.requires.w_value }
 
-pub is_offset-requires : goal.is_offset-requires
-is_offset-requires c = c.requires.w_value
-
 pub returns-then-not-is_offset : goal.returns-then-not-is_offset
 returns-then-not-is_offset c =
     let a = c.args in
     record { any_lengths = λ h lengths source child. rw c.refused-then-not-is_offset.ensures (list_over (join a.plan.now a.parts.now lengths a.places.now a.body.now a.first source) child a.i a.w a.slot a.n a.write a.counters.now a.room.now c.has_child.ensures c.if-not-has_child.false-raw (c.pairs_in.ensures a.plan.now a.parts.now lengths source) c.if-not-pairs_in.false-raw (let h = half_most a.w c.requires.w_value in omega arith) c.place-sizes.ensures (rw (add-one a.i) at c.rows_of-rows.ensures) c.sum_sizes-sum.ensures c.is_offset.ensures c.if-not-is_offset.true-raw); named = λ h. absurd (omega (arith, c.refused-then-not-is_offset.ensures, h)); any_lengths_2 = λ h. absurd (omega (arith, c.refused-then-not-is_offset.ensures, h)) }
-
-pub scale-o-requires : goal.scale-o-requires
-scale-o-requires c = width_in_lem c.args.w (λ p q. c.requires.w_value)
 
 pub put_sums-requires : goal.put_sums-requires
 put_sums-requires c =

@@ -1,7 +1,7 @@
 -- `listed::copy_listed` meets its contract. Assumes nothing.
-use mathlib.Core.Path.{◌≡◌, refl, sym, ap, ◌∙◌}
+use mathlib.Core.Path.{◌≡◌, sym, ap, ◌∙◌}
 use mathlib.Core.List.{List}
-use Prim.Native.Nat.{ℕ, ◌+◌, ◌*◌, ◌-◌}
+use Prim.Native.Nat.{ℕ, ◌+◌, ◌*◌}
 use native.Mathlib.Nat.{mul-zero, mul-add}
 use native.Mathlib.Omega.{arith}
 use lib.ListN.{length, take, drop}
@@ -12,29 +12,13 @@ use Rattle.batch.proofs.batch_walk.Sums.{entry_in_lem}
 use Rattle.batch.proofs.batch_walk.Gathered.{taken_room, taken_sum, taken_step}
 use Rattle.batch.proofs.listed.copy_listed.Goals as goal
 
-pub loop-r-init : goal.loop-r-init
-unfolding sum_of
-loop-r-init c = (omega arith, refl, omega (arith, mul-zero c.args.v), sym (pieces_none _ _ _))
-
-pub overflow_add-slot : goal.overflow_add-slot
-overflow_add-slot c = omega arith
-
-pub entry_at-start-requires : goal.entry_at-start-requires
-entry_at-start-requires c = let a = c.args in record { w_value = c.requires.w_value; k_in_bounds = entry_in_lem a.offsets a.w a.slot a.n c.loop-r.r (length a.body.now) c.requires.n_in_bounds.0 (omega arith) }
-
-pub overflow_add-slot-in-loop-r : goal.overflow_add-slot-in-loop-r
-overflow_add-slot-in-loop-r c = omega arith
-
-pub entry_at-requires : goal.entry_at-requires
-entry_at-requires c = let a = c.args in record { w_value = c.requires.w_value; k_in_bounds = entry_in_lem a.sizes a.w a.slot a.n c.loop-r.r (length a.body.now) c.requires.n_in_bounds.1 (omega arith) }
-
 pub overflow_mul-size : goal.overflow_mul-size
 overflow_mul-size c =
     let a = c.args in
     let l = c.loop-r in
     let s : ℕ → ℕ = λ q. entry a.w a.body.now a.offsets (a.slot + q) in
     let z : ℕ → ℕ = λ q. entry a.w a.body.now a.sizes (a.slot + q) in
-    omega (arith, c.well_formed, c.ranges, l.invariant.2, taken_room a.v s z a.body.now a.at a.n c.requires.n_in_bounds_2.1 l.r a.to (length a.room.now) (omega arith) c.requires.n_in_bounds_2.0, c.requires.n_in_bounds_2.1 l.r (omega arith), mul-add a.v (s l.r) (z l.r), ap (λ (q : ℕ). a.v * q) c.entry_at-start.ensures, ap (λ (q : ℕ). a.v * q) c.entry_at.ensures)
+    omega (arith, c.well_formed, c.ranges, l.invariant.0, taken_room a.v s z a.body.now a.at a.n c.requires.n_in_bounds_2.1 l.r a.to (length a.room.now) (omega arith) c.requires.n_in_bounds_2.0, c.requires.n_in_bounds_2.1 l.r (omega arith), mul-add a.v (s l.r) (z l.r), ap (λ (q : ℕ). a.v * q) c.entry_at-start.ensures, ap (λ (q : ℕ). a.v * q) c.entry_at.ensures)
 
 pub overflow_mul-from : goal.overflow_mul-from
 overflow_mul-from c =
@@ -42,7 +26,7 @@ overflow_mul-from c =
     let l = c.loop-r in
     let s : ℕ → ℕ = λ q. entry a.w a.body.now a.offsets (a.slot + q) in
     let z : ℕ → ℕ = λ q. entry a.w a.body.now a.sizes (a.slot + q) in
-    omega (arith, c.well_formed, c.ranges, l.invariant.2, taken_room a.v s z a.body.now a.at a.n c.requires.n_in_bounds_2.1 l.r a.to (length a.room.now) (omega arith) c.requires.n_in_bounds_2.0, c.requires.n_in_bounds_2.1 l.r (omega arith), mul-add a.v (s l.r) (z l.r), ap (λ (q : ℕ). a.v * q) c.entry_at-start.ensures, ap (λ (q : ℕ). a.v * q) c.entry_at.ensures)
+    omega (arith, c.well_formed, c.ranges, l.invariant.0, taken_room a.v s z a.body.now a.at a.n c.requires.n_in_bounds_2.1 l.r a.to (length a.room.now) (omega arith) c.requires.n_in_bounds_2.0, c.requires.n_in_bounds_2.1 l.r (omega arith), mul-add a.v (s l.r) (z l.r), ap (λ (q : ℕ). a.v * q) c.entry_at-start.ensures, ap (λ (q : ℕ). a.v * q) c.entry_at.ensures)
 
 pub overflow_add-from : goal.overflow_add-from
 overflow_add-from c =
@@ -50,7 +34,7 @@ overflow_add-from c =
     let l = c.loop-r in
     let s : ℕ → ℕ = λ q. entry a.w a.body.now a.offsets (a.slot + q) in
     let z : ℕ → ℕ = λ q. entry a.w a.body.now a.sizes (a.slot + q) in
-    omega (arith, c.well_formed, c.ranges, l.invariant.2, taken_room a.v s z a.body.now a.at a.n c.requires.n_in_bounds_2.1 l.r a.to (length a.room.now) (omega arith) c.requires.n_in_bounds_2.0, c.requires.n_in_bounds_2.1 l.r (omega arith), mul-add a.v (s l.r) (z l.r), ap (λ (q : ℕ). a.v * q) c.entry_at-start.ensures, ap (λ (q : ℕ). a.v * q) c.entry_at.ensures)
+    omega (arith, c.well_formed, c.ranges, l.invariant.0, taken_room a.v s z a.body.now a.at a.n c.requires.n_in_bounds_2.1 l.r a.to (length a.room.now) (omega arith) c.requires.n_in_bounds_2.0, c.requires.n_in_bounds_2.1 l.r (omega arith), mul-add a.v (s l.r) (z l.r), ap (λ (q : ℕ). a.v * q) c.entry_at-start.ensures, ap (λ (q : ℕ). a.v * q) c.entry_at.ensures)
 
 pub copy_few-requires : goal.copy_few-requires
 copy_few-requires c =
@@ -58,7 +42,7 @@ copy_few-requires c =
     let l = c.loop-r in
     let s : ℕ → ℕ = λ q. entry a.w a.body.now a.offsets (a.slot + q) in
     let z : ℕ → ℕ = λ q. entry a.w a.body.now a.sizes (a.slot + q) in
-    (omega (arith, l.invariant.1, c.well_formed, c.ranges, l.invariant.2, taken_room a.v s z a.body.now a.at a.n c.requires.n_in_bounds_2.1 l.r a.to (length a.room.now) (omega arith) c.requires.n_in_bounds_2.0, c.requires.n_in_bounds_2.1 l.r (omega arith), mul-add a.v (s l.r) (z l.r), ap (λ (q : ℕ). a.v * q) c.entry_at-start.ensures, ap (λ (q : ℕ). a.v * q) c.entry_at.ensures), omega (arith, c.well_formed, c.ranges, l.invariant.2, taken_room a.v s z a.body.now a.at a.n c.requires.n_in_bounds_2.1 l.r a.to (length a.room.now) (omega arith) c.requires.n_in_bounds_2.0, c.requires.n_in_bounds_2.1 l.r (omega arith), mul-add a.v (s l.r) (z l.r), ap (λ (q : ℕ). a.v * q) c.entry_at-start.ensures, ap (λ (q : ℕ). a.v * q) c.entry_at.ensures))
+    (omega (arith, l.auto.room, c.well_formed, c.ranges, l.invariant.0, taken_room a.v s z a.body.now a.at a.n c.requires.n_in_bounds_2.1 l.r a.to (length a.room.now) (omega arith) c.requires.n_in_bounds_2.0, c.requires.n_in_bounds_2.1 l.r (omega arith), mul-add a.v (s l.r) (z l.r), ap (λ (q : ℕ). a.v * q) c.entry_at-start.ensures, ap (λ (q : ℕ). a.v * q) c.entry_at.ensures), omega (arith, c.well_formed, c.ranges, l.invariant.0, taken_room a.v s z a.body.now a.at a.n c.requires.n_in_bounds_2.1 l.r a.to (length a.room.now) (omega arith) c.requires.n_in_bounds_2.0, c.requires.n_in_bounds_2.1 l.r (omega arith), mul-add a.v (s l.r) (z l.r), ap (λ (q : ℕ). a.v * q) c.entry_at-start.ensures, ap (λ (q : ℕ). a.v * q) c.entry_at.ensures))
 
 pub overflow_add-to : goal.overflow_add-to
 overflow_add-to c =
@@ -66,13 +50,7 @@ overflow_add-to c =
     let l = c.loop-r in
     let s : ℕ → ℕ = λ q. entry a.w a.body.now a.offsets (a.slot + q) in
     let z : ℕ → ℕ = λ q. entry a.w a.body.now a.sizes (a.slot + q) in
-    omega (arith, c.well_formed, c.ranges, l.invariant.2, taken_room a.v s z a.body.now a.at a.n c.requires.n_in_bounds_2.1 l.r a.to (length a.room.now) (omega arith) c.requires.n_in_bounds_2.0, c.requires.n_in_bounds_2.1 l.r (omega arith), mul-add a.v (s l.r) (z l.r), ap (λ (q : ℕ). a.v * q) c.entry_at-start.ensures, ap (λ (q : ℕ). a.v * q) c.entry_at.ensures)
-
-pub overflow_add-r : goal.overflow_add-r
-overflow_add-r c = omega arith
-
-pub loop-r-smaller : goal.loop-r-smaller
-loop-r-smaller c = omega arith
+    omega (arith, c.well_formed, c.ranges, l.invariant.0, taken_room a.v s z a.body.now a.at a.n c.requires.n_in_bounds_2.1 l.r a.to (length a.room.now) (omega arith) c.requires.n_in_bounds_2.0, c.requires.n_in_bounds_2.1 l.r (omega arith), mul-add a.v (s l.r) (z l.r), ap (λ (q : ℕ). a.v * q) c.entry_at-start.ensures, ap (λ (q : ℕ). a.v * q) c.entry_at.ensures)
 
 pub loop-r-preserved : goal.loop-r-preserved
 loop-r-preserved c =
@@ -80,19 +58,15 @@ loop-r-preserved c =
     let l = c.loop-r in
     let s : ℕ → ℕ = λ q. entry a.w a.body.now a.offsets (a.slot + q) in
     let z : ℕ → ℕ = λ q. entry a.w a.body.now a.sizes (a.slot + q) in (
-      omega arith,
-      omega arith,
-      omega (arith, l.invariant.2, ap (λ (q : ℕ). a.v * q) c.entry_at.ensures, taken_sum a.v s z a.body.now a.at a.n c.requires.n_in_bounds_2.1 l.r a.to),
+      omega (arith, l.invariant.0, ap (λ (q : ℕ). a.v * q) c.entry_at.ensures, taken_sum a.v s z a.body.now a.at a.n c.requires.n_in_bounds_2.1 l.r a.to),
       c.copy_few.ensures
           ∙ ap (λ (q : ℕ). splice l.to (take (a.v * q) (drop (a.at + a.v * c.entry_at-start.result) a.body.now)) l.room) c.entry_at.ensures
           ∙ ap (λ (q : ℕ). splice l.to (take (a.v * z l.r) (drop (a.at + a.v * q) a.body.now)) l.room) c.entry_at-start.ensures
-          ∙ ap (λ (q : ℕ). splice q (take (a.v * z l.r) (drop (a.at + a.v * s l.r) a.body.now)) l.room) l.invariant.2
-          ∙ ap (λ (q : List ℕ). splice (a.to + a.v * sum_of z l.r) (take (a.v * z l.r) (drop (a.at + a.v * s l.r) a.body.now)) q) l.invariant.3
+          ∙ ap (λ (q : ℕ). splice q (take (a.v * z l.r) (drop (a.at + a.v * s l.r) a.body.now)) l.room) l.invariant.0
+          ∙ ap (λ (q : List ℕ). splice (a.to + a.v * sum_of z l.r) (take (a.v * z l.r) (drop (a.at + a.v * s l.r) a.body.now)) q) l.invariant.1
           ∙ taken_step a.v s z a.body.now a.at a.n c.requires.n_in_bounds_2.1 l.r a.to a.room.now (omega arith) c.requires.n_in_bounds_2.0,
     )
 
-pub shape_of-room : goal.shape_of-room
-shape_of-room c = omega arith
-
-pub returns : goal.returns
-returns c = let e : c.loop-r.r ≡ c.args.n = omega arith in rw e at c.loop-r.invariant.3
+pub loop-r-init : goal.loop-r-init
+unfolding sum_of
+loop-r-init c = (omega (arith, mul-zero c.args.v), sym (pieces_none _ _ _))

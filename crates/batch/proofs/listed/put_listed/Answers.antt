@@ -11,36 +11,6 @@ use Rattle.batch.proofs.batch_walk.PlainLeaf.{plain_wide}
 use Rattle.batch.proofs.batch_walk.Gathered.{never, at_in, rows_in_lem, room_in, put_did}
 use Rattle.batch.proofs.listed.put_listed.Goals as goal
 
-pub is_shuffled-requires : goal.is_shuffled-requires
-is_shuffled-requires c = record { n_in_bounds = c.requires.n_in_bounds; w_value = c.requires.w_value }
-
-pub returns-then-not-is_shuffled : goal.returns-then-not-is_shuffled
-returns-then-not-is_shuffled c = record { room_value = λ z. refl; did = λ z. never z }
-
-pub furthest-end-requires : goal.furthest-end-requires
-furthest-end-requires c = record { n_in_bounds = c.requires.n_in_bounds; w_value = c.requires.w_value }
-
-pub reaches-requires : goal.reaches-requires
-reaches-requires c = (c.requires.first_bound.0, c.requires.first_bound.1, (plain_wide c.args.plan.now c.args.k c.requires.first_bound.2 c.requires.first_bound.3).1)
-
-pub returns-then-not-reaches : goal.returns-then-not-reaches
-returns-then-not-reaches c = record { room_value = λ z. refl; did = λ z. never z }
-
-pub scale-o-requires : goal.scale-o-requires
-scale-o-requires c = plain_wide c.args.plan.now c.args.k c.requires.first_bound.2 c.requires.first_bound.3
-
-pub scale-requires : goal.scale-requires
-scale-requires c = plain_wide c.args.plan.now c.args.k c.requires.first_bound.2 c.requires.first_bound.3
-
-pub slot_of-offset-requires : goal.slot_of-offset-requires
-slot_of-offset-requires c = (c.requires.first_bound.0, c.requires.first_bound.1)
-
-pub overflow_add-first : goal.overflow_add-first
-overflow_add-first c = omega (arith, c.requires.first_bound.0, c.requires.first_bound.1)
-
-pub place-requires : goal.place-requires
-place-requires c = (omega (arith, c.requires.first_bound.0, c.requires.first_bound.1), omega arith)
-
 pub overflow_mul-at : goal.overflow_mul-at
 overflow_mul-at c =
     let a = c.args in
@@ -60,14 +30,11 @@ copy_listed-requires c =
     let a = c.args in
     let s : ℕ → ℕ = λ q. entry a.w a.body.now a.offsets (a.slot + q) in
     let z : ℕ → ℕ = λ q. entry a.w a.body.now a.sizes (a.slot + q) in
-    record { n_in_bounds = c.requires.n_in_bounds; w_value = c.requires.w_value; n_in_bounds_2 = (room_in (join a.plan.now a.parts.now a.lengths.now a.places.now a.body.now a.first 0) a.k c.requires.first_bound.3 c.requires.first_bound.1 s z a.n a.v c.furthest-end.result c.requires.first_bound.2 c.furthest-end.ensures (c.reaches.ensures a.plan.now a.parts.now 0) c.if-not-reaches.false-raw c.slot_of-offset.result c.place.result (c.slot_of-offset.ensures a.plan.now a.parts.now a.places.now a.body.now 0) c.place.ensures a.counters.now a.room.now (omega (arith, c.requires.first_bound.1, c.known-counters, ap length c.known-counters.ensures)) (plain_wide a.plan.now a.k c.requires.first_bound.2 c.requires.first_bound.3).0 a.total c.in-At.to c.scale-o.result c.scale.result a.write c.requires.total_value (omega (arith, c.well_formed)) (made a.plan.now a.parts.now (length a.room.now) a.write a.k 1 c.scale-o.result c.scale.result c.target.ensures c.in-At.is) (c.scale-o.ensures ∙ ap (λ q. scaled q a.v) (c.rows_of.ensures ∙ ap (λ q. rows q a.k) c.known-counters.ensures)) c.scale.ensures, rows_in_lem (join a.plan.now a.parts.now a.lengths.now a.places.now a.body.now a.first 0) a.k c.requires.first_bound.3 c.requires.first_bound.1 s z a.n a.v c.furthest-end.result c.requires.first_bound.2 c.furthest-end.ensures (c.reaches.ensures a.plan.now a.parts.now 0) c.if-not-reaches.false-raw c.slot_of-offset.result c.place.result (c.slot_of-offset.ensures a.plan.now a.parts.now a.places.now a.body.now 0) c.place.ensures) }
+    record { n_in_bounds = c.requires.n_in_bounds; w_value = c.requires.w_value; n_in_bounds_2 = (room_in (join a.plan.now a.parts.now a.lengths.now a.places.now a.body.now a.first 0) a.k c.requires.first_bound.3 c.requires.first_bound.1 s z a.n a.v c.furthest-end.result c.requires.first_bound.2 c.furthest-end.ensures (c.reaches.ensures a.plan.now a.parts.now 0) c.if-not-reaches.false-raw c.slot_of-offset.result c.place.result (c.slot_of-offset.ensures a.plan.now a.parts.now a.places.now a.body.now 0) c.place.ensures a.counters.now a.room.now (omega (arith, c.requires.first_bound.1, c.told-counters)) (plain_wide a.plan.now a.k c.requires.first_bound.2 c.requires.first_bound.3).0 a.total c.in-At.to c.scale-o.result c.scale.result a.write c.requires.total_value (omega (arith, c.well_formed)) (made a.plan.now a.parts.now (length a.room.now) a.write a.k 1 c.scale-o.result c.scale.result c.target.ensures c.in-At.is) (c.scale-o.ensures ∙ ap (λ q. scaled q a.v) c.rows_of.ensures) c.scale.ensures, rows_in_lem (join a.plan.now a.parts.now a.lengths.now a.places.now a.body.now a.first 0) a.k c.requires.first_bound.3 c.requires.first_bound.1 s z a.n a.v c.furthest-end.result c.requires.first_bound.2 c.furthest-end.ensures (c.reaches.ensures a.plan.now a.parts.now 0) c.if-not-reaches.false-raw c.slot_of-offset.result c.place.result (c.slot_of-offset.ensures a.plan.now a.parts.now a.places.now a.body.now 0) c.place.ensures) }
 
 pub returns-in-At : goal.returns-in-At
 returns-in-At c =
     let a = c.args in
     let s : ℕ → ℕ = λ q. entry a.w a.body.now a.offsets (a.slot + q) in
     let z : ℕ → ℕ = λ q. entry a.w a.body.now a.sizes (a.slot + q) in
-    record { room_value = λ y. never (sym y); did = λ y source. put_did (join a.plan.now a.parts.now a.lengths.now a.places.now a.body.now a.first source) a.k c.requires.first_bound.3 c.requires.first_bound.1 s z a.n a.v c.furthest-end.result c.requires.first_bound.2 c.furthest-end.ensures (c.reaches.ensures a.plan.now a.parts.now source) c.if-not-reaches.false-raw c.slot_of-offset.result c.place.result (c.slot_of-offset.ensures a.plan.now a.parts.now a.places.now a.body.now source) c.place.ensures a.counters.now a.room.now (omega (arith, c.requires.first_bound.1, c.known-counters, ap length c.known-counters.ensures)) (plain_wide a.plan.now a.k c.requires.first_bound.2 c.requires.first_bound.3).0 a.total c.in-At.to c.scale-o.result c.scale.result a.write c.requires.total_value (omega (arith, c.well_formed)) (made a.plan.now a.parts.now (length a.room.now) a.write a.k 1 c.scale-o.result c.scale.result c.target.ensures c.in-At.is) (c.scale-o.ensures ∙ ap (λ q. scaled q a.v) (c.rows_of.ensures ∙ ap (λ q. rows q a.k) c.known-counters.ensures)) c.scale.ensures c.copy_listed.ensures }
-
-pub returns-in-Skip : goal.returns-in-Skip
-returns-in-Skip c = record { room_value = λ z. refl; did = λ z. never z }
+    record { room_value = λ y. never (sym y); did = λ y source. put_did (join a.plan.now a.parts.now a.lengths.now a.places.now a.body.now a.first source) a.k c.requires.first_bound.3 c.requires.first_bound.1 s z a.n a.v c.furthest-end.result c.requires.first_bound.2 c.furthest-end.ensures (c.reaches.ensures a.plan.now a.parts.now source) c.if-not-reaches.false-raw c.slot_of-offset.result c.place.result (c.slot_of-offset.ensures a.plan.now a.parts.now a.places.now a.body.now source) c.place.ensures a.counters.now a.room.now (omega (arith, c.requires.first_bound.1, c.told-counters)) (plain_wide a.plan.now a.k c.requires.first_bound.2 c.requires.first_bound.3).0 a.total c.in-At.to c.scale-o.result c.scale.result a.write c.requires.total_value (omega (arith, c.well_formed)) (made a.plan.now a.parts.now (length a.room.now) a.write a.k 1 c.scale-o.result c.scale.result c.target.ensures c.in-At.is) (c.scale-o.ensures ∙ ap (λ q. scaled q a.v) c.rows_of.ensures) c.scale.ensures c.copy_listed.ensures }

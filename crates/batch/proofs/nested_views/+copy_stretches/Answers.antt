@@ -17,19 +17,10 @@ use Rattle.batch.proofs.batch_walk.Node.{node_far, node_stop, node_done}
 use Rattle.batch.proofs.batch_walk.Nested.{listed_here, listed_child, listed_wide, child_deep, child_under, below_flat, below_nested, stretches_as, nested_mask, nested_data}
 use Rattle.batch.proofs.nested_views.+copy_stretches.Goals as goal
 
-pub copy_list_view-put_head-t-requires : goal.copy_list_view-put_head-t-requires
-copy_list_view-put_head-t-requires t c = record { first_bound = (c.requires.first_bound.0, omega arith, c.requires.first_bound.2); w_value = c.requires.w_value }
-
 pub copy_list_view-returns-then-t-ne0 : goal.copy_list_view-returns-then-t-ne0
 copy_list_view-returns-then-t-ne0 t c =
     let a = c.args in
     λ source. c.put_head-t.ensures.any_lengths c.if-t-ne0.true a.lengths.now source (batch_below (join a.plan.now a.parts.now a.lengths.now a.places.now a.body.now a.first source) a.depth)
-
-pub copy_list_view-overflow_add-i : goal.copy_list_view-overflow_add-i
-copy_list_view-overflow_add-i t c = omega arith
-
-pub copy_list_view-is_flat-requires : goal.copy_list_view-is_flat-requires
-copy_list_view-is_flat-requires t c = omega arith
 
 pub copy_list_view-copy_rows-requires : goal.copy_list_view-copy_rows-requires
 copy_list_view-copy_rows-requires t c =
@@ -67,16 +58,10 @@ copy_list_view-returns t c =
     let u = listed_here a.plan.now (a.depth - 1) (suc a.i) (child_under a.plan.now a.depth (suc a.i) c.requires.first_bound.3 p) in
     λ source. c.put_head-t.ensures.any_lengths_2 c.if-t-ne0.false a.lengths.now source (batch_below (join a.plan.now a.parts.now a.lengths.now a.places.now a.body.now a.first source) a.depth) _ _ _ (stretches_as (join a.plan.now a.parts.now a.lengths.now a.places.now a.body.now a.first source) (λ b k d. batch_node (join a.plan.now a.parts.now a.lengths.now a.places.now a.body.now a.first source) (batch_below (join a.plan.now a.parts.now a.lengths.now a.places.now a.body.now a.first source) (a.depth - 1)) (suc a.i) b k d) (λ b k d. batch_below (join a.plan.now a.parts.now a.lengths.now a.places.now a.body.now a.first source) a.depth (suc a.i) b k d) (λ b k d. below_nested (join a.plan.now a.parts.now a.lengths.now a.places.now a.body.now a.first source) (a.depth - 1) (suc a.i) u b k d ∙ ap (λ y. batch_below (join a.plan.now a.parts.now a.lengths.now a.places.now a.body.now a.first source) y (suc a.i) b k d) z) _ _ a.n a.counters.now (c.copy_stretches.ensures source))
 
-pub copy_node-slot_of-slot-requires : goal.copy_node-slot_of-slot-requires
-copy_node-slot_of-slot-requires t c = omega (arith, c.requires)
-
 pub copy_node-returns-then-slot-ge-FAR : goal.copy_node-returns-then-slot-ge-FAR
 copy_node-returns-then-slot-ge-FAR t c =
     let a = c.args in
     λ source. node_far (join a.plan.now a.parts.now a.lengths.now a.places.now a.body.now a.first source) (batch_below (join a.plan.now a.parts.now a.lengths.now a.places.now a.body.now a.first source) a.depth) a.k (omega (arith, c.requires.1)) (nested_mask (join a.plan.now a.parts.now a.lengths.now a.places.now a.body.now a.first source) a.k (listed_here a.plan.now a.depth a.k c.requires.2) (batch_below (join a.plan.now a.parts.now a.lengths.now a.places.now a.body.now a.first source) a.depth)) a.a a.n a.write a.counters.now a.room.now (c.slot_of-slot.ensures a.plan.now a.parts.now a.places.now a.body.now source) c.if-slot-ge-FAR.true
-
-pub copy_node-width_at-w-requires : goal.copy_node-width_at-w-requires
-copy_node-width_at-w-requires t c = omega (arith, c.requires.1)
 
 pub copy_node-copy_list_view-g-requires : goal.copy_node-copy_list_view-g-requires
 copy_node-copy_list_view-g-requires t c =
@@ -87,9 +72,6 @@ pub copy_node-returns-then-g-ne0 : goal.copy_node-returns-then-g-ne0
 copy_node-returns-then-g-ne0 t c =
     let a = c.args in
     λ source. node_stop (join a.plan.now a.parts.now a.lengths.now a.places.now a.body.now a.first source) (batch_below (join a.plan.now a.parts.now a.lengths.now a.places.now a.body.now a.first source) a.depth) a.k (omega (arith, c.requires.1)) (nested_mask (join a.plan.now a.parts.now a.lengths.now a.places.now a.body.now a.first source) a.k (listed_here a.plan.now a.depth a.k c.requires.2) (batch_below (join a.plan.now a.parts.now a.lengths.now a.places.now a.body.now a.first source) a.depth)) a.a a.n a.write a.counters.now a.room.now (c.slot_of-slot.ensures a.plan.now a.parts.now a.places.now a.body.now source) c.if-slot-ge-FAR.false (nested_data (join a.plan.now a.parts.now a.lengths.now a.places.now a.body.now a.first source) a.k (listed_here a.plan.now a.depth a.k c.requires.2) (batch_below (join a.plan.now a.parts.now a.lengths.now a.places.now a.body.now a.first source) a.depth) c.slot_of-slot.result a.n a.counters.now c.width_at-w.ensures (c.copy_list_view-g.ensures source)) c.if-g-ne0.true
-
-pub copy_node-add_rows-requires : goal.copy_node-add_rows-requires
-copy_node-add_rows-requires t c = omega (arith, c.requires.1)
 
 pub copy_node-returns : goal.copy_node-returns
 copy_node-returns t c =
@@ -107,12 +89,6 @@ copy_stretches-loop-r-init t c =
       subst (λ v. v + a.w * (a.slot + a.n) ≤ length a.body.now) (sym c.place-sizes.ensures) c.requires.n_in_bounds.1,
       λ source. begins a.plan.now a.parts.now a.write (λ b k d. batch_node (join a.plan.now a.parts.now a.lengths.now a.places.now a.body.now a.first source) (batch_below (join a.plan.now a.parts.now a.lengths.now a.places.now a.body.now a.first source) a.depth) (suc a.i) b k d) a.w a.body.now a.slot a.n a.counters.now a.room.now c.place-offsets.ensures c.place-sizes.ensures,
     )
-
-pub copy_stretches-advance-t-requires : goal.copy_stretches-advance-t-requires
-copy_stretches-advance-t-requires t c = record { n_in_bounds = (c.loop-r.invariant.4, c.loop-r.invariant.5, c.requires.first_bound.2, c.loop-r.invariant.0); m_bound = (c.loop-r.invariant.2, c.loop-r.invariant.3); w_value = c.requires.w_value }
-
-pub copy_stretches-overflow_add-i : goal.copy_stretches-overflow_add-i
-copy_stretches-overflow_add-i t c = omega arith
 
 pub copy_stretches-copy_node-g-requires : goal.copy_stretches-copy_node-g-requires
 copy_stretches-copy_node-g-requires t c =
@@ -136,24 +112,6 @@ copy_stretches-returns-then-t-n t c =
     let f : ℕ → ℕ = λ q. entry a.w a.body.now c.place-sizes.result (a.slot + q) in
     λ source. loop_zero (λ b k d. batch_node (join a.plan.now a.parts.now a.lengths.now a.places.now a.body.now a.first source) (batch_below (join a.plan.now a.parts.now a.lengths.now a.places.now a.body.now a.first source) a.depth) (suc a.i) b k d) s f a.n l.r l.a l.m l.counters l.room (l.invariant.6 source) c.advance-t.result.next c.advance-t.result.a c.advance-t.result.m (c.advance-t.ensures.by_index (λ b k d. batch_node (join a.plan.now a.parts.now a.lengths.now a.places.now a.body.now a.first source) (batch_below (join a.plan.now a.parts.now a.lengths.now a.places.now a.body.now a.first source) a.depth) (suc a.i) b k d) l.counters) c.advance-t.ensures.next_le_n.0 (rw (add-one a.i) at (c.copy_node-g.ensures source)) c.if-t-n.true c.if-g-ne0.false
 
-pub copy_stretches-overflow_add-slot : goal.copy_stretches-overflow_add-slot
-copy_stretches-overflow_add-slot t c = omega (arith, c.advance-t.ensures.next_le_n.0, c.requires.first_bound.2)
-
-pub copy_stretches-entry_at-a-requires : goal.copy_stretches-entry_at-a-requires
-copy_stretches-entry_at-a-requires t c = let a = c.args in record { w_value = c.requires.w_value; k_in_bounds = entry_in_lem c.place-offsets.result a.w a.slot a.n c.advance-t.result.next (length a.body.now) c.loop-r.invariant.4 (omega (arith, c.advance-t.ensures.next_le_n.0, c.requires.first_bound.2)) }
-
-pub copy_stretches-overflow_add-slot-in-loop-r : goal.copy_stretches-overflow_add-slot-in-loop-r
-copy_stretches-overflow_add-slot-in-loop-r t c = omega (arith, c.advance-t.ensures.next_le_n.0, c.requires.first_bound.2)
-
-pub copy_stretches-entry_at-m-requires : goal.copy_stretches-entry_at-m-requires
-copy_stretches-entry_at-m-requires t c = let a = c.args in record { w_value = c.requires.w_value; k_in_bounds = entry_in_lem c.place-sizes.result a.w a.slot a.n c.advance-t.result.next (length a.body.now) c.loop-r.invariant.5 (omega (arith, c.advance-t.ensures.next_le_n.0, c.requires.first_bound.2)) }
-
-pub copy_stretches-overflow_add-r : goal.copy_stretches-overflow_add-r
-copy_stretches-overflow_add-r t c = omega (arith, c.advance-t.ensures.next_le_n.0, c.requires.first_bound.2)
-
-pub copy_stretches-loop-r-smaller : goal.copy_stretches-loop-r-smaller
-copy_stretches-loop-r-smaller t c = omega (arith, c.advance-t.ensures.next_le_n, c.requires.first_bound.2)
-
 pub copy_stretches-loop-r-preserved : goal.copy_stretches-loop-r-preserved
 copy_stretches-loop-r-preserved t c =
     let a = c.args in
@@ -169,6 +127,3 @@ copy_stretches-loop-r-preserved t c =
       l.invariant.5,
       λ source. loop_more (λ b k d. batch_node (join a.plan.now a.parts.now a.lengths.now a.places.now a.body.now a.first source) (batch_below (join a.plan.now a.parts.now a.lengths.now a.places.now a.body.now a.first source) a.depth) (suc a.i) b k d) s f a.n l.r l.a l.m l.counters l.room (l.invariant.6 source) c.advance-t.result.next c.advance-t.result.a c.advance-t.result.m (c.advance-t.ensures.by_index (λ b k d. batch_node (join a.plan.now a.parts.now a.lengths.now a.places.now a.body.now a.first source) (batch_below (join a.plan.now a.parts.now a.lengths.now a.places.now a.body.now a.first source) a.depth) (suc a.i) b k d) l.counters) c.advance-t.ensures.next_le_n.0 (rw (add-one a.i) at (c.copy_node-g.ensures source)) c.if-g-ne0.false c.if-t-n.false c.advance-t.ensures.next_value refl c.entry_at-a.ensures c.entry_at-m.ensures,
     )
-
-pub copy_stretches-returns : goal.copy_stretches-returns
-copy_stretches-returns t c = absurd (omega arith)

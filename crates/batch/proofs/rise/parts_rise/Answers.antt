@@ -9,34 +9,16 @@ use Rattle.batch.specs.batch_walk.Ends.{end_from}
 use Rattle.batch.proofs.batch_walk.Rises.{from_step, from_end}
 use Rattle.batch.proofs.rise.parts_rise.Goals as goal
 
-pub loop-i-init : goal.loop-i-init
-loop-i-init c = let a = c.args in (omega arith, ap (λ v. end_from a.plan.now a.parts.now v 0 0) (sub-zero c.node_count-n.result))
-
-pub end_behind-validity-requires : goal.end_behind-validity-requires
-end_behind-validity-requires c = omega (arith, c.node_count-n.ensures.upper_bound)
-
-pub end_behind-first-requires : goal.end_behind-first-requires
-end_behind-first-requires c = omega (arith, c.node_count-n.ensures.upper_bound)
-
-pub end_behind-end-requires : goal.end_behind-end-requires
-end_behind-end-requires c = omega (arith, c.node_count-n.ensures.upper_bound)
-
-pub overflow_add-i : goal.overflow_add-i
-overflow_add-i c = omega (arith, c.node_count-n.ensures.upper_bound)
-
-pub loop-i-smaller : goal.loop-i-smaller
-loop-i-smaller c = omega arith
-
 pub loop-i-preserved : goal.loop-i-preserved
 loop-i-preserved c =
     let a = c.args in
     let l = c.loop-i in
     let e : c.node_count-n.result - l.i ≡ suc (c.node_count-n.result - (l.i + 1)) = omega arith in
-    (omega arith, from_step a.plan.now a.parts.now (c.node_count-n.result - (l.i + 1)) l.i l.end e c.end_behind-validity.ensures c.end_behind-first.ensures c.end_behind-end.ensures refl ∙ l.invariant.1)
+    from_step a.plan.now a.parts.now (c.node_count-n.result - (l.i + 1)) l.i l.end e c.end_behind-validity.ensures c.end_behind-first.ensures c.end_behind-end.ensures refl ∙ l.invariant
 
 pub returns : goal.returns
 returns c =
     let a = c.args in
     let l = c.loop-i in
     let e : c.node_count-n.result - l.i ≡ 0 = omega arith in
-    ap (λ v. ltb v top) (sym (from_end a.plan.now a.parts.now l.i l.end e) ∙ l.invariant.1 ∙ ap (λ v. end_from a.plan.now a.parts.now v 0 0) c.node_count-n.ensures.value)
+    ap (λ v. ltb v top) (sym (from_end a.plan.now a.parts.now l.i l.end e) ∙ l.invariant ∙ ap (λ v. end_from a.plan.now a.parts.now v 0 0) c.node_count-n.ensures.value)

@@ -11,37 +11,13 @@ use Rattle.batch.proofs.batch_walk.Sums.{entry_in_lem, sum_more, sum_below}
 use Rattle.batch.proofs.batch_walk.Loops.{advance_step}
 use Rattle.batch.proofs.side.advance.Goals as goal
 
-pub loop-r-init : goal.loop-r-init
-loop-r-init c = (omega arith, omega arith, c.requires.m_bound.0, λ walk c. refl)
-
-pub overflow_add-slot : goal.overflow_add-slot
-overflow_add-slot c = omega arith
-
-pub entry_at-start-requires : goal.entry_at-start-requires
-entry_at-start-requires c = let a = c.args in record { w_value = c.requires.w_value; k_in_bounds = entry_in_lem a.offsets a.w a.slot a.n c.loop-r.r (length a.body.now) c.requires.n_in_bounds.0 (omega arith) }
-
-pub overflow_add-slot-in-loop-r : goal.overflow_add-slot-in-loop-r
-overflow_add-slot-in-loop-r c = omega arith
-
-pub entry_at-size-requires : goal.entry_at-size-requires
-entry_at-size-requires c = let a = c.args in record { w_value = c.requires.w_value; k_in_bounds = entry_in_lem a.sizes a.w a.slot a.n c.loop-r.r (length a.body.now) c.requires.n_in_bounds.1 (omega arith) }
-
-pub returns-then-side-eq3 : goal.returns-then-side-eq3
-returns-then-side-eq3 c = record { by_index = c.loop-r.invariant.3; next_le_n = (omega arith, omega arith); next_value = λ h. sym (rw (c.entry_at-start.ensures, c.entry_at-size.ensures) at c.side_of-side.ensures) ∙ c.if-side-eq3.true }
-
 pub next_size-k-requires : goal.next_size-k-requires
 next_size-k-requires c =
     let a = c.args in
     let l = c.loop-r in
     let f : ℕ → ℕ = λ q. entry a.w a.body.now a.sizes (a.slot + q) in
     let g : sum_of f (l.r + 1) ≡ sum_of f l.r + f l.r = sum_more f l.r in
-    omega (arith, g, sum_below f (l.r + 1) a.n (omega arith), c.entry_at-size.ensures, l.invariant.2, c.requires.m_bound.1)
-
-pub overflow_add-r : goal.overflow_add-r
-overflow_add-r c = omega arith
-
-pub loop-r-smaller : goal.loop-r-smaller
-loop-r-smaller c = omega arith
+    omega (arith, g, sum_below f (l.r + 1) a.n (omega arith), c.entry_at-size.ensures, l.invariant.0, c.requires.m_bound.1)
 
 pub loop-r-preserved : goal.loop-r-preserved
 loop-r-preserved c =
@@ -52,11 +28,9 @@ loop-r-preserved c =
     let g : sum_of f (l.r + 1) ≡ sum_of f l.r + f l.r = sum_more f l.r in
     let y : a.n - l.r ≡ suc (a.n - (l.r + 1)) = omega arith in
     let t : next_size c.side_of-side.result l.k c.entry_at-size.result ≤ l.k + c.entry_at-size.result = next_size_most c.side_of-side.result l.k c.entry_at-size.result in (
-      omega arith,
-      omega arith,
-      omega (arith, g, t, c.next_size-k.ensures, c.entry_at-size.ensures, l.invariant.2),
-      λ walk e. l.invariant.3 walk e ∙ advance_step walk s f e (a.n - (l.r + 1)) l.r l.b l.k y c.entry_at-start.ensures c.entry_at-size.ensures c.side_of-side.ensures c.if-side-eq3.false c.next_start-b.ensures c.next_size-k.ensures refl,
+      omega (arith, g, t, c.next_size-k.ensures, c.entry_at-size.ensures, l.invariant.0),
+      λ walk e. l.invariant.1 walk e ∙ advance_step walk s f e (a.n - (l.r + 1)) l.r l.b l.k y c.entry_at-start.ensures c.entry_at-size.ensures c.side_of-side.ensures c.if-side-eq3.false c.next_start-b.ensures c.next_size-k.ensures refl,
     )
 
 pub returns : goal.returns
-returns c = record { by_index = c.loop-r.invariant.3; next_le_n = (omega arith, omega arith); next_value = λ h. absurd (h (omega arith)) }
+returns c = let e : c.loop-r.r ≡ c.args.n = omega arith in record { by_index = rw e at c.loop-r.invariant.1; next_le_n = (omega arith, omega arith); next_value = λ h. absurd (h (omega arith)) }

@@ -1,12 +1,9 @@
 use mathlib.Core.Path.{◌≡◌}
-use Prim.Native.Nat.{◌+◌, ◌-◌, ◌≤◌}
+use Prim.Native.Nat.{◌+◌}
 use Rattle.number.specs.Number.{entry}
 use Rattle.walk.specs.State.{grown}
 use Rattle.batch.specs.Stretch.{sum_of}
 use Rattle.batch.proofs.sizes.add_sizes.Given as goal
 
 abbrev pub invariant-loop-r : goal.invariant-loop-r
-invariant-loop-r l = (l.r ≤ l.n) × (l.sum ≡ grown l.rows (sum_of (λ q. entry l.w l.body l.at (l.slot + q)) l.r))
-
-abbrev pub decreases-loop-r : goal.decreases-loop-r
-decreases-loop-r l = l.n - l.r
+invariant-loop-r l = l.sum ≡ grown l.rows (sum_of (λ q. entry l.w l.body l.at (l.slot + q)) l.r)

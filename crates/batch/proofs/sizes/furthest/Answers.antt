@@ -5,16 +5,10 @@ use Rattle.number.specs.Number.{entry}
 use Rattle.batch.specs.batch_walk.Side.{furthest_of}
 use Rattle.batch.proofs.sizes.furthest.Goals as goal
 
-pub furthest_by-requires : goal.furthest_by-requires
-furthest_by-requires c = record { n_in_bounds = (rw c.if-w-eq4.true at c.requires.n_in_bounds.0, rw c.if-w-eq4.true at c.requires.n_in_bounds.1, c.requires.n_in_bounds.2); w_value = λ f. absurd (f refl) }
-
 pub returns-then-w-eq4 : goal.returns-then-w-eq4
 returns-then-w-eq4 c =
     let a = c.args in
     subst (λ v. c.furthest_by.result ≡ furthest_of (λ q. entry v a.body.now a.offsets (a.slot + q) + entry v a.body.now a.sizes (a.slot + q)) a.n) (sym c.if-w-eq4.true) c.furthest_by.ensures
-
-pub furthest_by-requires-2 : goal.furthest_by-requires-2
-furthest_by-requires-2 c = record { n_in_bounds = (rw (c.requires.w_value c.if-w-eq4.false) at c.requires.n_in_bounds.0, rw (c.requires.w_value c.if-w-eq4.false) at c.requires.n_in_bounds.1, c.requires.n_in_bounds.2); w_value = λ f. refl }
 
 pub returns : goal.returns
 returns c =

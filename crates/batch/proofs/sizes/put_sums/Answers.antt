@@ -11,9 +11,6 @@ use Rattle.walk.specs.State.{scaled}
 use Rattle.batch.specs.Stretch.{sum_of}
 use Rattle.batch.proofs.sizes.put_sums.Goals as goal
 
-pub scale-requires : goal.scale-requires
-scale-requires c = width_in_lem c.args.w (λ p q. c.requires.w_value)
-
 pub write_sums-requires : goal.write_sums-requires
 write_sums-requires c =
     let a = c.args in

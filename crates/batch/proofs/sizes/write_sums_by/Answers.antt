@@ -1,7 +1,7 @@
 -- `batch_walk::sizes::write_sums_by` meets its contract. Assumes nothing.
-use mathlib.Core.Path.{◌≡◌, refl, sym, ap, ◌∙◌}
+use mathlib.Core.Path.{◌≡◌, sym, ap, ◌∙◌}
 use mathlib.Core.List.{List}
-use Prim.Native.Nat.{ℕ, ◌+◌, ◌*◌, ◌-◌}
+use Prim.Native.Nat.{ℕ, ◌+◌, ◌*◌}
 use native.Mathlib.Omega.{arith}
 use lib.ListN.{length}
 use Rattle.number.specs.Number.{entry, encode, splice}
@@ -10,36 +10,12 @@ use Rattle.batch.specs.Stretch.{sum_of}
 use Rattle.batch.proofs.batch_walk.Sums.{entry_in_lem, step_in, sum_none, sum_more, sum_below}
 use Rattle.batch.proofs.sizes.write_sums_by.Goals as goal
 
-pub loop-r-init : goal.loop-r-init
-loop-r-init c = (omega arith, refl, sum_none _ _, sym (pieces_none _ _ _))
-
-pub overflow_mul-w : goal.overflow_mul-w
-overflow_mul-w c = let a = c.args in omega (arith, step_in a.to a.w a.n c.loop-r.r (length a.room.now) c.requires.n_in_bounds.0 (omega arith))
-
-pub overflow_add-to : goal.overflow_add-to
-overflow_add-to c = let a = c.args in omega (arith, step_in a.to a.w a.n c.loop-r.r (length a.room.now) c.requires.n_in_bounds.0 (omega arith))
-
-pub write_entry-requires : goal.write_entry-requires
-write_entry-requires c = let a = c.args in record { w_in_bounds = omega (arith, step_in a.to a.w a.n c.loop-r.r (length a.room.now) c.requires.n_in_bounds.0 (omega arith)); w_value = c.requires.w_value }
-
-pub overflow_add-slot : goal.overflow_add-slot
-overflow_add-slot c = omega arith
-
-pub entry_at-sum-requires : goal.entry_at-sum-requires
-entry_at-sum-requires c = let a = c.args in record { w_value = c.requires.w_value; k_in_bounds = entry_in_lem a.at a.w a.slot a.n c.loop-r.r (length a.body.now) c.requires.n_in_bounds.1 (omega arith) }
-
 pub overflow_add-sum : goal.overflow_add-sum
 overflow_add-sum c =
     let a = c.args in
     let f : ℕ → ℕ = λ q. entry a.w a.body.now a.at (a.slot + q) in
     let g : sum_of f (c.loop-r.r + 1) ≡ sum_of f c.loop-r.r + f c.loop-r.r = sum_more f c.loop-r.r in
-    omega (arith, g, sum_below f (c.loop-r.r + 1) a.n (omega arith), c.entry_at-sum.ensures, c.loop-r.invariant.2, c.requires.n_in_bounds.3)
-
-pub overflow_add-r : goal.overflow_add-r
-overflow_add-r c = omega arith
-
-pub loop-r-smaller : goal.loop-r-smaller
-loop-r-smaller c = omega arith
+    omega (arith, g, sum_below f (c.loop-r.r + 1) a.n (omega arith), c.entry_at-sum.ensures, c.loop-r.invariant.0, c.requires.n_in_bounds.3)
 
 pub loop-r-preserved : goal.loop-r-preserved
 loop-r-preserved c =
@@ -47,17 +23,12 @@ loop-r-preserved c =
     let l = c.loop-r in
     let f : ℕ → ℕ = λ q. entry a.w a.body.now a.at (a.slot + q) in
     let g : sum_of f (l.r + 1) ≡ sum_of f l.r + f l.r = sum_more f l.r in (
-      omega arith,
-      omega arith,
-      omega (arith, g, c.entry_at-sum.ensures, l.invariant.2),
+      omega (arith, g, c.entry_at-sum.ensures, l.invariant.0),
       c.write_entry.ensures
-          ∙ ap (λ (v : ℕ). splice (a.to + a.w * l.r) (encode a.w v) l.room) l.invariant.2
-          ∙ ap (λ (z : List ℕ). splice (a.to + a.w * l.r) (encode a.w (a.rows + sum_of f l.r)) z) l.invariant.3
+          ∙ ap (λ (v : ℕ). splice (a.to + a.w * l.r) (encode a.w v) l.room) l.invariant.0
+          ∙ ap (λ (z : List ℕ). splice (a.to + a.w * l.r) (encode a.w (a.rows + sum_of f l.r)) z) l.invariant.1
           ∙ numbers_step a.w (λ p. a.rows + sum_of f p) a.room.now a.to l.r (step_in a.to a.w a.n l.r (length a.room.now) c.requires.n_in_bounds.0 (omega arith)),
     )
 
-pub shape_of-room : goal.shape_of-room
-shape_of-room c = omega arith
-
-pub returns : goal.returns
-returns c = let e : c.loop-r.r ≡ c.args.n = omega arith in rw e at c.loop-r.invariant.3
+pub loop-r-init : goal.loop-r-init
+loop-r-init c = (sum_none _ _, sym (pieces_none _ _ _))

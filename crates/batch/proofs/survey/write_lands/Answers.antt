@@ -1,7 +1,7 @@
 -- `survey::write_lands` meets its contract. Assumes nothing.
 use mathlib.Core.Path.{◌≡◌, refl, sym, ap, ◌∙◌}
 use mathlib.Core.List.{List}
-use Prim.Native.Nat.{ℕ, ◌+◌, ◌*◌, ◌-◌}
+use Prim.Native.Nat.{ℕ, ◌+◌, ◌*◌}
 use native.Mathlib.Omega.{arith}
 use lib.ListN.{get_or}
 use Rattle.number.specs.Number.{encode, splice}
@@ -14,13 +14,7 @@ use Rattle.batch.proofs.survey.write_lands.Goals as goal
 pub loop-r-init : goal.loop-r-init
 loop-r-init c =
     let a = c.args in
-    (omega arith, refl, landing_none (λ q. home_by a.homes.now a.body.now (a.ids + (a.slot + q))) a.counters.now c.rows_of_all-lands.result c.rows_of_all-lands.ensures, sym (pieces_none _ _ _))
-
-pub overflow_add-slot : goal.overflow_add-slot
-overflow_add-slot c = omega arith
-
-pub overflow_add-ids : goal.overflow_add-ids
-overflow_add-ids c = omega arith
+    (landing_none (λ q. home_by a.homes.now a.body.now (a.ids + (a.slot + q))) a.counters.now c.rows_of_all-lands.result c.rows_of_all-lands.ensures, sym (pieces_none _ _ _))
 
 pub offset_bounds-lands-k : goal.offset_bounds-lands-k
 offset_bounds-lands-k c =
@@ -28,7 +22,7 @@ offset_bounds-lands-k c =
     let l = c.loop-r in
     let h : ℕ → ℕ = λ q. home_by a.homes.now a.body.now (a.ids + (a.slot + q)) in
     let m = land_at h a.counters.now a.n l.r c.requires.3 (omega arith) in
-    omega (arith, m.0, c.home_at-k.ensures, l.invariant.2.0)
+    omega (arith, m.0, c.home_at-k.ensures, l.invariant.0.0)
 
 pub bounds-lands-k : goal.bounds-lands-k
 bounds-lands-k c =
@@ -36,13 +30,7 @@ bounds-lands-k c =
     let l = c.loop-r in
     let h : ℕ → ℕ = λ q. home_by a.homes.now a.body.now (a.ids + (a.slot + q)) in
     let m = land_at h a.counters.now a.n l.r c.requires.3 (omega arith) in
-    omega (arith, m.0, c.home_at-k.ensures, l.invariant.2.0)
-
-pub overflow_mul-r : goal.overflow_mul-r
-overflow_mul-r c = omega arith
-
-pub overflow_add-to : goal.overflow_add-to
-overflow_add-to c = omega arith
+    omega (arith, m.0, c.home_at-k.ensures, l.invariant.0.0)
 
 pub overflow_add-lands : goal.overflow_add-lands
 overflow_add-lands c =
@@ -50,7 +38,7 @@ overflow_add-lands c =
     let l = c.loop-r in
     let h : ℕ → ℕ = λ q. home_by a.homes.now a.body.now (a.ids + (a.slot + q)) in
     let m = land_at h a.counters.now a.n l.r c.requires.3 (omega arith) in
-    let v : get_or l.lands c.home_at-k.result 0 ≡ lands_by h a.counters.now l.r = landing_at h a.counters.now l.r l.lands l.invariant.2 m.0 c.home_at-k.ensures in
+    let v : get_or l.lands c.home_at-k.result 0 ≡ lands_by h a.counters.now l.r = landing_at h a.counters.now l.r l.lands l.invariant.0 m.0 c.home_at-k.ensures in
     omega (arith, m.1, v)
 
 pub offset_bounds-lands-k-in-loop-r : goal.offset_bounds-lands-k-in-loop-r
@@ -59,7 +47,7 @@ offset_bounds-lands-k-in-loop-r c =
     let l = c.loop-r in
     let h : ℕ → ℕ = λ q. home_by a.homes.now a.body.now (a.ids + (a.slot + q)) in
     let m = land_at h a.counters.now a.n l.r c.requires.3 (omega arith) in
-    omega (arith, m.0, c.home_at-k.ensures, l.invariant.2.0)
+    omega (arith, m.0, c.home_at-k.ensures, l.invariant.0.0)
 
 pub bounds-lands-k-in-loop-r : goal.bounds-lands-k-in-loop-r
 bounds-lands-k-in-loop-r c =
@@ -67,13 +55,7 @@ bounds-lands-k-in-loop-r c =
     let l = c.loop-r in
     let h : ℕ → ℕ = λ q. home_by a.homes.now a.body.now (a.ids + (a.slot + q)) in
     let m = land_at h a.counters.now a.n l.r c.requires.3 (omega arith) in
-    omega (arith, m.0, c.home_at-k.ensures, l.invariant.2.0)
-
-pub overflow_add-r : goal.overflow_add-r
-overflow_add-r c = omega arith
-
-pub loop-r-smaller : goal.loop-r-smaller
-loop-r-smaller c = omega arith
+    omega (arith, m.0, c.home_at-k.ensures, l.invariant.0.0)
 
 pub loop-r-preserved : goal.loop-r-preserved
 loop-r-preserved c =
@@ -81,16 +63,11 @@ loop-r-preserved c =
     let l = c.loop-r in
     let h : ℕ → ℕ = λ q. home_by a.homes.now a.body.now (a.ids + (a.slot + q)) in
     let m = land_at h a.counters.now a.n l.r c.requires.3 (omega arith) in
-    let v : get_or l.lands c.home_at-k.result 0 ≡ lands_by h a.counters.now l.r = landing_at h a.counters.now l.r l.lands l.invariant.2 m.0 c.home_at-k.ensures in (
-      omega arith,
-      omega arith,
-      landing_more h a.counters.now l.r l.lands l.invariant.2 m.0 c.home_at-k.ensures refl refl,
-      c.write_u32.ensures
-          ∙ ap (λ (z : List ℕ). splice (a.to + 4 * l.r) z l.room) (encode_mod 4 (get_or l.lands c.home_at-k.result 0))
+    let v : get_or l.lands c.home_at-k.result 0 ≡ lands_by h a.counters.now l.r = landing_at h a.counters.now l.r l.lands l.invariant.0 m.0 c.home_at-k.ensures in (
+      landing_more h a.counters.now l.r l.lands l.invariant.0 m.0 c.home_at-k.ensures refl refl,
+      c.write.ensures
+          ∙ ap (λ (z : List ℕ). splice (a.to + 4 * l.r) z l.room) (ap (λ (z : ℕ). encode 4 z) c.truncate.ensures ∙ encode_mod 4 (get_or l.lands c.home_at-k.result 0))
           ∙ ap (λ (z : ℕ). splice (a.to + 4 * l.r) (encode 4 z) l.room) v
-          ∙ ap (λ (z : List ℕ). splice (a.to + 4 * l.r) (encode 4 (lands_by h a.counters.now l.r)) z) l.invariant.3
+          ∙ ap (λ (z : List ℕ). splice (a.to + 4 * l.r) (encode 4 (lands_by h a.counters.now l.r)) z) l.invariant.1
           ∙ numbers_step 4 (lands_by h a.counters.now) a.room.now a.to l.r (omega arith),
     )
-
-pub returns : goal.returns
-returns c = let e : c.loop-r.r ≡ c.args.n = omega arith in rw e at c.loop-r.invariant.3

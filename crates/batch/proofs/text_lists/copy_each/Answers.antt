@@ -1,7 +1,7 @@
 -- `batch::text_lists::copy_each` meets its contract. Assumes nothing.
 use mathlib.Core.Path.{◌≡◌, refl, sym, subst}
 use mathlib.Core.Bool.{true}
-use Prim.Native.Nat.{ℕ, suc, ◌+◌, ◌*◌, ◌-◌, ◌≤◌, ◌<◌, ◌^◌}
+use Prim.Native.Nat.{ℕ, suc, ◌+◌, ◌*◌, ◌≤◌, ◌<◌, ◌^◌}
 use native.Mathlib.Numerals.{add-one}
 use native.Mathlib.Omega.{arith}
 use lib.ListN.{length}
@@ -9,13 +9,12 @@ use Rattle.number.specs.Number.{entry}
 use Rattle.leaf_walk.specs.Join.{join}
 use Rattle.batch.specs.Stretch.{sum_of}
 use Rattle.batch.specs.Batch.{batch_leaf}
-use Rattle.batch.specs.batch_walk.Plain.{is_text}
 use Rattle.batch.proofs.batch_walk.Sums.{entry_in_lem, sum_more}
 use Rattle.batch.proofs.batch_walk.Loops.{begins, loop_stop, loop_zero, loop_more}
 use Rattle.batch.proofs.text_lists.copy_each.Goals as goal
 
 pub loop-r-init : goal.loop-r-init
-loop-r-init c =
+loop-r-init g c =
     let a = c.args in (
       omega arith,
       refl,
@@ -26,20 +25,14 @@ loop-r-init c =
       λ source. begins a.plan.now a.parts.now a.write (λ b k d. batch_leaf (join a.plan.now a.parts.now a.lengths.now a.places.now a.body.now a.first source) (suc a.i) b k d) a.w a.body.now a.slot a.n a.counters.now a.room.now c.place-offsets.ensures c.place-sizes.ensures,
     )
 
-pub advance-t-requires : goal.advance-t-requires
-advance-t-requires c = record { n_in_bounds = (c.loop-r.invariant.4, c.loop-r.invariant.5, c.requires.first_bound.2, c.loop-r.invariant.0); m_bound = (c.loop-r.invariant.2, c.loop-r.invariant.3); w_value = c.requires.w_value }
-
-pub overflow_add-i-in-loop-r : goal.overflow_add-i-in-loop-r
-overflow_add-i-in-loop-r c = omega arith
-
 pub copy_stretch-g-requires : goal.copy_stretch-g-requires
-copy_stretch-g-requires c =
+copy_stretch-g-requires g c =
     let a = c.args in
-    let p : is_text a.plan.now (a.i + 1) ≡ true = rw (add-one a.i) c.requires.first_bound.3 in
+    let p : g.C.FlatChild.holds a.plan.now (a.i + 1) ≡ true = rw (add-one a.i) c.requires.first_bound.3 in
     (c.requires.first_bound.0, omega arith, c.width_at-v.ensures, p)
 
 pub returns-then-g-ne0 : goal.returns-then-g-ne0
-returns-then-g-ne0 c =
+returns-then-g-ne0 g c =
     let a = c.args in
     let l = c.loop-r in
     let s : ℕ → ℕ = λ q. entry a.w a.body.now c.place-offsets.result (a.slot + q) in
@@ -47,33 +40,15 @@ returns-then-g-ne0 c =
     λ source. loop_stop (λ b k d. batch_leaf (join a.plan.now a.parts.now a.lengths.now a.places.now a.body.now a.first source) (suc a.i) b k d) s f a.n l.r l.a l.m l.counters l.room (l.invariant.6 source) c.advance-t.result.next c.advance-t.result.a c.advance-t.result.m (c.advance-t.ensures.by_index (λ b k d. batch_leaf (join a.plan.now a.parts.now a.lengths.now a.places.now a.body.now a.first source) (suc a.i) b k d) l.counters) c.advance-t.ensures.next_le_n.0 (rw (add-one a.i) at (c.copy_stretch-g.ensures source)) c.if-g-ne0.true c.advance-t.ensures.next_value
 
 pub returns-then-t-n : goal.returns-then-t-n
-returns-then-t-n c =
+returns-then-t-n g c =
     let a = c.args in
     let l = c.loop-r in
     let s : ℕ → ℕ = λ q. entry a.w a.body.now c.place-offsets.result (a.slot + q) in
     let f : ℕ → ℕ = λ q. entry a.w a.body.now c.place-sizes.result (a.slot + q) in
     λ source. loop_zero (λ b k d. batch_leaf (join a.plan.now a.parts.now a.lengths.now a.places.now a.body.now a.first source) (suc a.i) b k d) s f a.n l.r l.a l.m l.counters l.room (l.invariant.6 source) c.advance-t.result.next c.advance-t.result.a c.advance-t.result.m (c.advance-t.ensures.by_index (λ b k d. batch_leaf (join a.plan.now a.parts.now a.lengths.now a.places.now a.body.now a.first source) (suc a.i) b k d) l.counters) c.advance-t.ensures.next_le_n.0 (rw (add-one a.i) at (c.copy_stretch-g.ensures source)) c.if-t-n.true c.if-g-ne0.false
 
-pub overflow_add-slot : goal.overflow_add-slot
-overflow_add-slot c = omega (arith, c.advance-t.ensures.next_le_n.0, c.requires.first_bound.2)
-
-pub entry_at-a-requires : goal.entry_at-a-requires
-entry_at-a-requires c = let a = c.args in record { w_value = c.requires.w_value; k_in_bounds = entry_in_lem c.place-offsets.result a.w a.slot a.n c.advance-t.result.next (length a.body.now) c.loop-r.invariant.4 (omega (arith, c.advance-t.ensures.next_le_n.0, c.requires.first_bound.2)) }
-
-pub overflow_add-slot-in-loop-r : goal.overflow_add-slot-in-loop-r
-overflow_add-slot-in-loop-r c = omega (arith, c.advance-t.ensures.next_le_n.0, c.requires.first_bound.2)
-
-pub entry_at-m-requires : goal.entry_at-m-requires
-entry_at-m-requires c = let a = c.args in record { w_value = c.requires.w_value; k_in_bounds = entry_in_lem c.place-sizes.result a.w a.slot a.n c.advance-t.result.next (length a.body.now) c.loop-r.invariant.5 (omega (arith, c.advance-t.ensures.next_le_n.0, c.requires.first_bound.2)) }
-
-pub overflow_add-r : goal.overflow_add-r
-overflow_add-r c = omega (arith, c.advance-t.ensures.next_le_n.0, c.requires.first_bound.2)
-
-pub loop-r-smaller : goal.loop-r-smaller
-loop-r-smaller c = omega (arith, c.advance-t.ensures.next_le_n, c.requires.first_bound.2)
-
 pub loop-r-preserved : goal.loop-r-preserved
-loop-r-preserved c =
+loop-r-preserved g c =
     let a = c.args in
     let l = c.loop-r in
     let s : ℕ → ℕ = λ q. entry a.w a.body.now c.place-offsets.result (a.slot + q) in
@@ -87,6 +62,3 @@ loop-r-preserved c =
       l.invariant.5,
       λ source. loop_more (λ b k d. batch_leaf (join a.plan.now a.parts.now a.lengths.now a.places.now a.body.now a.first source) (suc a.i) b k d) s f a.n l.r l.a l.m l.counters l.room (l.invariant.6 source) c.advance-t.result.next c.advance-t.result.a c.advance-t.result.m (c.advance-t.ensures.by_index (λ b k d. batch_leaf (join a.plan.now a.parts.now a.lengths.now a.places.now a.body.now a.first source) (suc a.i) b k d) l.counters) c.advance-t.ensures.next_le_n.0 (rw (add-one a.i) at (c.copy_stretch-g.ensures source)) c.if-g-ne0.false c.if-t-n.false c.advance-t.ensures.next_value refl c.entry_at-a.ensures c.entry_at-m.ensures,
     )
-
-pub returns : goal.returns
-returns c = absurd (omega arith)

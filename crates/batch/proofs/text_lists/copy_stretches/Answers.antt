@@ -16,15 +16,6 @@ list_tried-t-requires c =
     let text = subst (λ y. is_text a.plan.now y ≡ true) (sym (add-one a.i)) p.first_bound.3 in
     record { first_bound = (p.first_bound.0, p.first_bound.1, c.width_at-v.ensures, text); n_in_bounds = (omega (arith, c.place-offsets.ensures, p.n_in_bounds.0), omega (arith, c.place-sizes.ensures, p.n_in_bounds.1), p.first_bound.2); w_value = p.w_value }
 
-pub copy_each-requires : goal.copy_each-requires
-copy_each-requires c = record { first_bound = c.requires.first_bound; n_in_bounds = c.requires.n_in_bounds; n_bound = c.requires.n_bound; w_value = c.requires.w_value }
-
-pub returns-then-t : goal.returns-then-t
-returns-then-t c = λ source. c.copy_each.ensures source
-
-pub sum_sizes-total-requires : goal.sum_sizes-total-requires
-sum_sizes-total-requires c = record { n_in_bounds = (omega (arith, c.place-sizes.ensures, c.requires.n_in_bounds.1), c.requires.first_bound.2); w_value = c.requires.w_value }
-
 pub returns-then-not-write : goal.returns-then-not-write
 returns-then-not-write c =
     let a = c.args in
@@ -38,6 +29,3 @@ put_each-requires c =
     let x = join a.plan.now a.parts.now a.lengths.now a.places.now a.body.now a.first 0 in
     let t = told_ok x a.i a.w a.slot a.n a.counters.now a.room.now c.place-offsets.ensures c.place-sizes.ensures (c.list_tried-t.ensures c.if-t.false a.parts.now 0 a.room.now) in
     record { first_bound = p.first_bound; fact = p.n_in_bounds; n_bound = p.n_bound; w_value = p.w_value; counters_value = t }
-
-pub returns : goal.returns
-returns c = λ source. c.put_each.ensures source

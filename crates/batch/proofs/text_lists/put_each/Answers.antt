@@ -1,7 +1,7 @@
 -- `batch::text_lists::put_each` meets its contract. Assumes nothing.
 use mathlib.Core.Path.{◌≡◌, refl, sym, subst}
 use mathlib.Core.Bool.{true}
-use Prim.Native.Nat.{ℕ, suc, ◌+◌, ◌*◌, ◌-◌, ◌≤◌, ◌<◌, ◌^◌}
+use Prim.Native.Nat.{ℕ, suc, ◌+◌, ◌*◌, ◌≤◌, ◌<◌, ◌^◌}
 use native.Mathlib.Numerals.{add-one}
 use native.Mathlib.Omega.{arith}
 use lib.ListN.{length}
@@ -29,12 +29,6 @@ loop-r-init c =
       begins_ok (λ b k d. batch_leaf (join a.plan.now a.parts.now a.lengths.now a.places.now a.body.now a.first 0) (suc a.i) b k d) a.w a.body.now a.slot a.n a.counters.now c.place-offsets.ensures c.place-sizes.ensures p.counters_value,
     )
 
-pub advance-t-requires : goal.advance-t-requires
-advance-t-requires c = let l = c.loop-r in record { n_in_bounds = (l.invariant.4, l.invariant.5, c.requires.first_bound.2, l.invariant.0); m_bound = (l.invariant.2, l.invariant.3); w_value = c.requires.w_value }
-
-pub overflow_add-i-in-loop-r : goal.overflow_add-i-in-loop-r
-overflow_add-i-in-loop-r c = omega (arith, c.requires.first_bound.1)
-
 pub put_stretch-requires : goal.put_stretch-requires
 put_stretch-requires c =
     let a = c.args in
@@ -55,27 +49,15 @@ returns-then-t-n c =
     let f : ℕ → ℕ = λ q. entry a.w a.body.now c.place-sizes.result (a.slot + q) in
     λ source. loop_zero (λ b k d. batch_leaf (join a.plan.now a.parts.now a.lengths.now a.places.now a.body.now a.first source) (suc a.i) b k d) s f a.n l.r l.a l.m l.counters l.room (l.invariant.6 source) t.result.next t.result.a t.result.m (t.ensures.by_index (λ b k d. batch_leaf (join a.plan.now a.parts.now a.lengths.now a.places.now a.body.now a.first source) (suc a.i) b k d) l.counters) t.ensures.next_le_n.0 (rw (add-one a.i) at (c.put_stretch.ensures source)) c.if-t-n.true refl
 
-pub overflow_add-slot : goal.overflow_add-slot
-overflow_add-slot c = omega (arith, c.advance-t.ensures.next_le_n.0, c.requires.first_bound.2)
-
 pub entry_at-a-requires : goal.entry_at-a-requires
 entry_at-a-requires c =
     let a = c.args in
     record { w_value = c.requires.w_value; k_in_bounds = entry_in_lem c.place-offsets.result a.w a.slot a.n c.advance-t.result.next (length a.body.now) c.loop-r.invariant.4 (omega (arith, c.advance-t.ensures.next_le_n.0, c.requires.first_bound.2)) }
 
-pub overflow_add-slot-in-loop-r : goal.overflow_add-slot-in-loop-r
-overflow_add-slot-in-loop-r c = omega (arith, c.advance-t.ensures.next_le_n.0, c.requires.first_bound.2)
-
 pub entry_at-m-requires : goal.entry_at-m-requires
 entry_at-m-requires c =
     let a = c.args in
     record { w_value = c.requires.w_value; k_in_bounds = entry_in_lem c.place-sizes.result a.w a.slot a.n c.advance-t.result.next (length a.body.now) c.loop-r.invariant.5 (omega (arith, c.advance-t.ensures.next_le_n.0, c.requires.first_bound.2)) }
-
-pub overflow_add-r : goal.overflow_add-r
-overflow_add-r c = omega (arith, c.advance-t.ensures.next_le_n.0, c.requires.first_bound.2)
-
-pub loop-r-smaller : goal.loop-r-smaller
-loop-r-smaller c = omega (arith, c.advance-t.ensures.next_le_n, c.requires.first_bound.2)
 
 pub loop-r-preserved : goal.loop-r-preserved
 loop-r-preserved c =
@@ -95,6 +77,3 @@ loop-r-preserved c =
       λ source. loop_more (λ b k d. batch_leaf (join a.plan.now a.parts.now a.lengths.now a.places.now a.body.now a.first source) (suc a.i) b k d) s f a.n l.r l.a l.m l.counters l.room (l.invariant.6 source) t.result.next t.result.a t.result.m (t.ensures.by_index (λ b k d. batch_leaf (join a.plan.now a.parts.now a.lengths.now a.places.now a.body.now a.first source) (suc a.i) b k d) l.counters) t.ensures.next_le_n.0 (rw (add-one a.i) at (c.put_stretch.ensures source)) refl c.if-t-n.false t.ensures.next_value refl c.entry_at-a.ensures c.entry_at-m.ensures,
       rest_ok (λ b k d. batch_leaf (join a.plan.now a.parts.now a.lengths.now a.places.now a.body.now a.first 0) (suc a.i) b k d) s f a.n l.r l.a l.m l.counters l.invariant.7 t.result.next t.result.a t.result.m (t.ensures.by_index (λ b k d. batch_leaf (join a.plan.now a.parts.now a.lengths.now a.places.now a.body.now a.first 0) (suc a.i) b k d) l.counters) t.ensures.next_le_n.0 t.ensures.next_value c.if-t-n.false d.counters refl c.entry_at-a.ensures c.entry_at-m.ensures,
     )
-
-pub returns : goal.returns
-returns c = absurd (omega arith)

@@ -10,9 +10,6 @@ use Rattle.leaf_walk.proofs.variable_size.Laws.{largest_in, copy_none}
 use Rattle.batch.proofs.batch_walk.TextPuts.{fits_at, put_did}
 use Rattle.batch.proofs.text_puts.put_rows.Goals as goal
 
-pub returns-then-n-eq0 : goal.returns-then-n-eq0
-returns-then-n-eq0 c = let a = c.args in λ lengths source. copy_none (join a.plan.now a.parts.now lengths a.places.now a.body.now a.first source) a.k a.write a.counters.now a.room.now a.w a.slot a.n c.if-n-eq0.true
-
 pub overflow_mul-from : goal.overflow_mul-from
 overflow_mul-from c =
     let a = c.args in
@@ -44,26 +41,11 @@ overflow_sub-more c =
     let h = fits_at a.w a.body.now a.slot a.n (bytes a.counters.now a.k) c.place-at.ensures refl (c.requires.fact c.if-n-eq0.false) in
     omega (arith, h.1, c.entry_at-lead.ensures, c.entry_at.ensures)
 
-pub bytes_of-old-requires : goal.bytes_of-old-requires
-bytes_of-old-requires c = c.requires.first_bound.1
-
-pub rows_of-requires : goal.rows_of-requires
-rows_of-requires c = c.requires.first_bound.1
-
-pub scale-o-requires : goal.scale-o-requires
-scale-o-requires c = width_in_lem c.args.w (λ p q. c.requires.w_value)
-
 pub put_offsets-requires : goal.put_offsets-requires
 put_offsets-requires c =
     let a = c.args in
     let h = fits_at a.w a.body.now a.slot a.n (bytes a.counters.now a.k) c.place-at.ensures refl (c.requires.fact c.if-n-eq0.false) in
     record { i_bound = (c.requires.first_bound.1, omega arith, h.0); w_value = c.requires.w_value }
-
-pub overflow_add-first-2 : goal.overflow_add-first-2
-overflow_add-first-2 c = omega (arith, c.requires.first_bound)
-
-pub place-requires : goal.place-requires
-place-requires c = (omega (arith, c.requires.first_bound), omega arith)
 
 pub overflow_add-begin : goal.overflow_add-begin
 overflow_add-begin c =
@@ -83,12 +65,12 @@ overflow_add-old c =
     let h = fits_at a.w a.body.now a.slot a.n (bytes a.counters.now a.k) c.place-at.ensures refl (c.requires.fact c.if-n-eq0.false) in
     omega (arith, h.3, c.entry_at-lead.ensures, c.entry_at.ensures, c.bytes_of-old.ensures, largest_in a.w c.requires.w_value)
 
-pub set_bytes-requires : goal.set_bytes-requires
-set_bytes-requires c = c.requires.first_bound.1
-
 pub returns : goal.returns
 returns c =
     let a = c.args in
     λ lengths source. put_did (join a.plan.now a.parts.now lengths a.places.now a.body.now a.first source) a.k a.w a.slot a.n a.write a.counters.now a.room.now
     c.if-n-eq0.false (c.requires.fact c.if-n-eq0.false) c.place-at.ensures c.place.ensures c.entry_at-lead.ensures c.entry_at.ensures c.bytes_of-old.ensures c.rows_of.ensures c.grow.ensures c.scale-o.ensures
     (width_in_lem a.w (λ p q. c.requires.w_value)).0 (omega (arith, c.well_formed)) c.put_offsets.ensures c.put_chars.ensures c.set_bytes.ensures
+
+pub returns-then-n-eq0 : goal.returns-then-n-eq0
+returns-then-n-eq0 c = let a = c.args in λ lengths source. copy_none (join a.plan.now a.parts.now lengths a.places.now a.body.now a.first source) a.k a.write a.counters.now a.room.now a.w a.slot a.n c.if-n-eq0.true

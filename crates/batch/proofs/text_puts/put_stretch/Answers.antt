@@ -12,9 +12,6 @@ put_rows-requires c =
     let x = join a.plan.now a.parts.now a.lengths.now a.places.now a.body.now a.first 0 in
     record { first_bound = (p.first_bound.0, p.first_bound.1); w_value = text_wide a.plan.now a.k p.first_bound.2 p.first_bound.3; fact = put_fits x a.k p.first_bound.3 p.first_bound.1 a.a a.n a.counters.now p.counters_value e p.first_bound.2 }
 
-pub add_rows-requires : goal.add_rows-requires
-add_rows-requires c = c.requires.first_bound.1
-
 pub returns : goal.returns
 returns c =
     let a = c.args in

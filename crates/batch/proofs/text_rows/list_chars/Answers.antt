@@ -1,6 +1,6 @@
 -- `batch::text_rows::list_chars` meets its contract. Assumes nothing.
 use mathlib.Core.Path.{refl, ap, subst, ◌∙◌}
-use Prim.Native.Nat.{◌+◌, ◌-◌, ◌≤◌}
+use Prim.Native.Nat.{◌+◌, ◌≤◌}
 use native.Mathlib.Omega.{arith}
 use lib.ListN.{length}
 use Rattle.number.specs.Number.{entry}
@@ -9,38 +9,14 @@ use Rattle.batch.proofs.batch_walk.Sums.{entry_in_lem, grown_none, grown_more}
 use Rattle.batch.proofs.batch_walk.TextRows.{row_in, rows_more, not_top}
 use Rattle.batch.proofs.text_rows.list_chars.Goals as goal
 
-pub loop-r-init : goal.loop-r-init
-loop-r-init c = let a = c.args in (omega arith, λ q h. absurd (omega arith), grown_none (λ q. chars_of a.v a.body.now a.at (a.offset + entry a.w a.body.now a.offsets (a.slot + q)) (entry a.w a.body.now a.sizes (a.slot + q))) 0 (omega arith))
-
-pub overflow_add-slot : goal.overflow_add-slot
-overflow_add-slot c = omega (arith, c.requires.n_in_bounds.2)
-
-pub entry_at-a-requires : goal.entry_at-a-requires
-entry_at-a-requires c = let a = c.args in record { w_value = c.requires.w_value; k_in_bounds = entry_in_lem a.offsets a.w a.slot a.n c.loop-r.r (length a.body.now) c.requires.n_in_bounds.0 (omega arith) }
-
-pub overflow_add-slot-in-loop-r : goal.overflow_add-slot-in-loop-r
-overflow_add-slot-in-loop-r c = omega (arith, c.requires.n_in_bounds.2)
-
-pub entry_at-m-requires : goal.entry_at-m-requires
-entry_at-m-requires c = let a = c.args in record { w_value = c.requires.w_value; k_in_bounds = entry_in_lem a.sizes a.w a.slot a.n c.loop-r.r (length a.body.now) c.requires.n_in_bounds.1 (omega arith) }
-
-pub overflow_add-offset : goal.overflow_add-offset
-overflow_add-offset c = omega (arith, c.requires.end_in_bounds.1, c.requires.end_in_bounds.2 c.loop-r.r (omega arith), c.entry_at-a.ensures)
-
 pub chars_of-d-requires : goal.chars_of-d-requires
 chars_of-d-requires c = let a = c.args in let h : c.entry_at-a.result + c.entry_at-m.result ≤ a.end = omega (arith, c.requires.end_in_bounds.2 c.loop-r.r (omega arith), c.entry_at-a.ensures, c.entry_at-m.ensures) in record { m_in_bounds = (row_in a.at a.v a.offset c.entry_at-a.result c.entry_at-m.result a.end (length a.body.now) h c.requires.end_in_bounds.0, omega (arith, c.requires.end_in_bounds.1)); w_value = c.requires.v_value }
 
-pub returns-then-d : goal.returns-then-d
-returns-then-d c = λ ne. absurd (ne refl)
-
-pub overflow_add-r : goal.overflow_add-r
-overflow_add-r c = omega (arith, c.requires.n_in_bounds.2)
-
-pub loop-r-smaller : goal.loop-r-smaller
-loop-r-smaller c = omega arith
-
 pub loop-r-preserved : goal.loop-r-preserved
-loop-r-preserved c = let a = c.args in let l = c.loop-r in let ens = c.chars_of-d.ensures c.if-d.false in let e1 = c.entry_at-a.ensures in let e2 = c.entry_at-m.ensures in (omega arith, rows_more (λ q. Rising a.v a.body.now a.at a.most (a.offset + entry a.w a.body.now a.offsets (a.slot + q)) (entry a.w a.body.now a.sizes (a.slot + q))) l.r l.invariant.1 (subst (λ z. Rising a.v a.body.now a.at a.most (a.offset + z) (entry a.w a.body.now a.sizes (a.slot + l.r))) e1 (subst (λ z. Rising a.v a.body.now a.at a.most (a.offset + c.entry_at-a.result) z) e2 ens.0)), grown_more (λ q. chars_of a.v a.body.now a.at (a.offset + entry a.w a.body.now a.offsets (a.slot + q)) (entry a.w a.body.now a.sizes (a.slot + q))) 0 l.r l.invariant.2 (ens.1 ∙ ap (λ z. chars_of a.v a.body.now a.at (a.offset + z) c.entry_at-m.result) e1 ∙ ap (λ z. chars_of a.v a.body.now a.at (a.offset + entry a.w a.body.now a.offsets (a.slot + l.r)) z) e2) c.grow-sum.ensures)
+loop-r-preserved c = let a = c.args in let l = c.loop-r in let ens = c.chars_of-d.ensures c.if-d.false in let e1 = c.entry_at-a.ensures in let e2 = c.entry_at-m.ensures in (rows_more (λ q. Rising a.v a.body.now a.at a.most (a.offset + entry a.w a.body.now a.offsets (a.slot + q)) (entry a.w a.body.now a.sizes (a.slot + q))) l.r l.invariant.0 (subst (λ z. Rising a.v a.body.now a.at a.most (a.offset + z) (entry a.w a.body.now a.sizes (a.slot + l.r))) e1 (subst (λ z. Rising a.v a.body.now a.at a.most (a.offset + c.entry_at-a.result) z) e2 ens.0)), grown_more (λ q. chars_of a.v a.body.now a.at (a.offset + entry a.w a.body.now a.offsets (a.slot + q)) (entry a.w a.body.now a.sizes (a.slot + q))) 0 l.r l.invariant.1 (ens.1 ∙ ap (λ z. chars_of a.v a.body.now a.at (a.offset + z) c.entry_at-m.result) e1 ∙ ap (λ z. chars_of a.v a.body.now a.at (a.offset + entry a.w a.body.now a.offsets (a.slot + l.r)) z) e2) c.grow-sum.ensures)
+
+pub loop-r-init : goal.loop-r-init
+loop-r-init c = let a = c.args in (λ q h. absurd (omega arith), grown_none (λ q. chars_of a.v a.body.now a.at (a.offset + entry a.w a.body.now a.offsets (a.slot + q)) (entry a.w a.body.now a.sizes (a.slot + q))) 0 (omega arith))
 
 pub returns : goal.returns
-returns c = let a = c.args in let l = c.loop-r in λ ne. (λ q h. l.invariant.1 q (omega arith), not_top (λ q. chars_of a.v a.body.now a.at (a.offset + entry a.w a.body.now a.offsets (a.slot + q)) (entry a.w a.body.now a.sizes (a.slot + q))) l.r a.n l.invariant.2 (omega arith) ne)
+returns c = let a = c.args in let l = c.loop-r in λ ne. (λ q h. l.invariant.0 q (omega arith), not_top (λ q. chars_of a.v a.body.now a.at (a.offset + entry a.w a.body.now a.offsets (a.slot + q)) (entry a.w a.body.now a.sizes (a.slot + q))) l.r a.n l.invariant.1 (omega arith) ne)

@@ -1,36 +1,17 @@
 -- `batch::texts::rises_by` meets its contract. Assumes nothing.
 use mathlib.Core.Path.{◌≡◌}
-use mathlib.Core.Bool.{true}
-use Prim.Native.Nat.{◌+◌, ◌-◌}
+use Prim.Native.Nat.{◌+◌}
 use native.Mathlib.Omega.{arith}
 use lib.ListN.{length}
 use Rattle.batch.proofs.batch_walk.Sums.{step_in}
 use Rattle.batch.proofs.batch_walk.TextLeaf.{falls_none, falls_more, falls_now}
 use Rattle.batch.proofs.texts.rises_by.Goals as goal
 
-pub entry_at-before-requires : goal.entry_at-before-requires
-entry_at-before-requires c = let a = c.args in record { w_value = c.requires.w_value; k_in_bounds = step_in a.from a.w (a.n + 1) 0 (length a.body.now) c.requires.n_in_bounds.0 (omega arith) }
-
 pub loop-r-init : goal.loop-r-init
-loop-r-init c = let a = c.args in (omega arith, c.entry_at-before.ensures, falls_none a.w a.body.now a.from)
-
-pub overflow_add-r : goal.overflow_add-r
-overflow_add-r c = omega arith
-
-pub entry_at-next-requires : goal.entry_at-next-requires
-entry_at-next-requires c = let a = c.args in record { w_value = c.requires.w_value; k_in_bounds = step_in a.from a.w (a.n + 1) (c.loop-r.r + 1) (length a.body.now) c.requires.n_in_bounds.0 (omega arith) }
+loop-r-init c = let a = c.args in (c.entry_at-before.ensures, falls_none a.w a.body.now a.from)
 
 pub returns-then-next-before : goal.returns-then-next-before
-returns-then-next-before c = let a = c.args in falls_now a.w a.body.now a.from c.loop-r.r a.n (omega arith) c.loop-r.invariant.1 c.entry_at-next.ensures c.if-next-before.true
-
-pub overflow_add-r-in-loop-r : goal.overflow_add-r-in-loop-r
-overflow_add-r-in-loop-r c = omega arith
-
-pub loop-r-smaller : goal.loop-r-smaller
-loop-r-smaller c = omega arith
+returns-then-next-before c = let a = c.args in falls_now a.w a.body.now a.from c.loop-r.r a.n (omega arith) c.loop-r.invariant.0 c.entry_at-next.ensures c.if-next-before.true
 
 pub loop-r-preserved : goal.loop-r-preserved
-loop-r-preserved c = let a = c.args in (omega arith, c.entry_at-next.ensures, falls_more a.w a.body.now a.from c.loop-r.r c.loop-r.invariant.2 c.loop-r.invariant.1 c.entry_at-next.ensures (omega arith))
-
-pub returns : goal.returns
-returns c = let e : c.loop-r.r ≡ c.args.n = omega arith in rw e at c.loop-r.invariant.2
+loop-r-preserved c = let a = c.args in (c.entry_at-next.ensures, falls_more a.w a.body.now a.from c.loop-r.r c.loop-r.invariant.1 c.loop-r.invariant.0 c.entry_at-next.ensures (omega arith))

@@ -1,12 +1,8 @@
 use mathlib.Core.Path.{◌≡◌}
 use mathlib.Core.Bool.{true}
-use Prim.Native.Nat.{◌-◌, ◌≤◌}
 use Rattle.number.specs.Number.{entry}
 use Rattle.batch.specs.Stretch.{never_falls}
 use Rattle.batch.proofs.texts.rises_by.Given as goal
 
 abbrev pub invariant-loop-r : goal.invariant-loop-r
-invariant-loop-r l = (l.r ≤ l.n) × (l.before ≡ entry l.w l.body l.from l.r) × (true ≡ never_falls l.w l.body l.from l.r)
-
-abbrev pub decreases-loop-r : goal.decreases-loop-r
-decreases-loop-r l = l.n - l.r
+invariant-loop-r l = (l.before ≡ entry l.w l.body l.from l.r) × (true ≡ never_falls l.w l.body l.from l.r)

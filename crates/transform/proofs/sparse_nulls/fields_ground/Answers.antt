@@ -16,13 +16,13 @@ pub loop-k-init : goal.loop-k-init
 loop-k-init c =
     let a = c.args in
     let p : 1 ≤ a.end = omega (arith, c.requires.2.some, c.requires.1) in
-    (omega arith, p, λ t h. c.ids_ground-g.ensures t (h 0 p ∙ ap (λ (v : ℕ). grown v a.n) (sym c.at_u64.ensures) ∙ sym c.grow-r.ensures))
+    λ t h. c.ids_ground-g.ensures t (h 0 p ∙ ap (λ (v : ℕ). grown v a.n) (sym c.at_u64.ensures) ∙ sym c.grow-r.ensures)
 
 pub code_of-requires : goal.code_of-requires
 code_of-requires c = omega (arith, c.loop-k-test.true, c.requires.0)
 
 pub number_size-w-requires : goal.number_size-w-requires
-number_size-w-requires c = ap is_fixed c.code_of.ensures ∙ (field_at c.args.plan.now c.requires.2 c.loop-k.k c.loop-k.invariant.0 (omega (arith, c.loop-k-test.true, c.requires.1))).fixed
+number_size-w-requires c = ap is_fixed c.code_of.ensures ∙ (field_at c.args.plan.now c.requires.2 c.loop-k.k c.loop-k.auto.k (omega (arith, c.loop-k-test.true, c.requires.1))).fixed
 
 pub overflow_mul-k : goal.overflow_mul-k
 overflow_mul-k c = omega (arith, c.loop-k-test.true, c.requires.0)
@@ -31,25 +31,19 @@ pub node_ground-requires : goal.node_ground-requires
 node_ground-requires c =
     let p = c.args.plan.now in
     let k = c.loop-k.k in
-    let some = c.loop-k.invariant.0 in
+    let some = c.loop-k.auto.k in
     let f = field_at p c.requires.2 k some (omega (arith, c.loop-k-test.true, c.requires.1)) in
     let w = c.number_size-w.ensures ∙ ap entry_size c.code_of.ensures in
     (omega (arith, c.loop-k-test.true, c.requires.0), f.fixed, w, field_copied p c.requires.2 k some (omega (arith, c.loop-k-test.true, c.requires.1)))
-
-pub overflow_add-k : goal.overflow_add-k
-overflow_add-k c = omega (arith, c.loop-k-test.true, c.requires.0)
-
-pub loop-k-smaller : goal.loop-k-smaller
-loop-k-smaller c = omega (arith, c.loop-k-test.true)
 
 pub loop-k-preserved : goal.loop-k-preserved
 loop-k-preserved c =
     let a = c.args in
     let k = c.loop-k.k in
     let b = c.loop-k-test.true in
-    (omega arith, omega (arith, b), λ t h. nodes_more a.plan.now t a.parts.now a.m k (c.loop-k.invariant.2 t h) (c.node_ground.ensures t (h k b ∙ ap (λ (v : ℕ). grown v a.n) (sym c.at_u64-in-loop-k.ensures) ∙ sym c.grow-r-in-loop-k.ensures)) c.worse-g.ensures)
+    λ t h. nodes_more a.plan.now t a.parts.now a.m k (c.loop-k.invariant t h) (c.node_ground.ensures t (h k b ∙ ap (λ (v : ℕ). grown v a.n) (sym c.at_u64-in-loop-k.ensures) ∙ sym c.grow-r-in-loop-k.ensures)) c.worse-g.ensures
 
 pub returns : goal.returns
 returns c =
     let a = c.args in
-    λ t h. nodes_all a.plan.now t a.parts.now a.m c.loop-k.k a.end c.requires.1 c.loop-k-test.false c.loop-k.invariant.1 (c.loop-k.invariant.2 t h)
+    λ t h. nodes_all a.plan.now t a.parts.now a.m c.loop-k.k a.end c.requires.1 c.loop-k-test.false (omega (arith, c.requires.2.some, c.requires.1)) (c.loop-k.invariant t h)

@@ -9,7 +9,4 @@ use Rattle.transform.proofs.sparse_nulls.fields_ground.Given as goal
 
 abbrev pub invariant-loop-k : goal.invariant-loop-k
 invariant-loop-k l =
-    (1 ≤ l.k) × (l.k ≤ l.end) × ((t : List ℕ) → Raised l.counters l.n l.end t → l.g ≡ verdict (every (within_at l.plan t l.parts l.m) l.k) (every (hold_at l.plan t l.parts l.m) l.k))
-
-abbrev pub decreases-loop-k : goal.decreases-loop-k
-decreases-loop-k l = l.end - l.k
+    (t : List ℕ) → Raised l.counters l.n l.end t → l.g ≡ verdict (every (within_at l.plan t l.parts l.m) l.k) (every (hold_at l.plan t l.parts l.m) l.k)

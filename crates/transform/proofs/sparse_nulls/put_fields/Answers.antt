@@ -12,19 +12,13 @@ use Rattle.transform.proofs.sparse_rows.Fields.{field_at}
 use Rattle.transform.proofs.sparse_nulls.put_fields.Goals as goal
 
 pub loop-k-init : goal.loop-k-init
-loop-k-init c = (omega arith, omega (arith, c.requires.3.some, c.requires.2), c.requires.0, refl, λ g c2 room2 d. d)
+loop-k-init c = λ g c2 room2 d. d
 
 pub put_field-requires : goal.put_field-requires
 put_field-requires c =
     let k = c.loop-k.k in
     let b = c.loop-k-test.true in
-    (c.loop-k.invariant.2, omega (arith, b, c.requires.1), c.requires.3.fields k c.loop-k.invariant.0 (omega (arith, b, c.requires.2)), c.requires.4)
-
-pub overflow_add-k : goal.overflow_add-k
-overflow_add-k c = omega (arith, c.loop-k-test.true, c.requires.1)
-
-pub loop-k-smaller : goal.loop-k-smaller
-loop-k-smaller c = omega (arith, c.loop-k-test.true)
+    (omega (arith, c.loop-k.auto.counters, c.requires.0), omega (arith, b, c.requires.1), c.requires.3.fields k c.loop-k.auto.k (omega (arith, b, c.requires.2)), c.requires.4)
 
 pub loop-k-preserved : goal.loop-k-preserved
 loop-k-preserved c =
@@ -32,11 +26,11 @@ loop-k-preserved c =
     let x = join a.plan.now a.parts.now [] [] [] 0 0 in
     let k = c.loop-k.k in
     let b = c.loop-k-test.true in
-    let next = (field_at a.plan.now c.requires.3 k c.loop-k.invariant.0 (omega (arith, b, c.requires.2))).end in
-    (omega arith, omega (arith, b), omega (arith, c.counters-1.given, c.loop-k.invariant.2), omega (arith, c.room-1.given, c.loop-k.invariant.3), λ g c2 room2 d. c.loop-k.invariant.4 g c2 room2 (fields_more x (null_walk x 7) true a.n a.end k c.loop-k.counters c.loop-k.room {f' = 33 - (k + 1)} (omega (arith, b, c.requires.1)) b c.put_field.ensures refl (add-one k ∙ sym next) d))
+    let next = (field_at a.plan.now c.requires.3 k c.loop-k.auto.k (omega (arith, b, c.requires.2))).end in
+    λ g c2 room2 d. c.loop-k.invariant g c2 room2 (fields_more x (null_walk x 7) true a.n a.end k c.loop-k.counters c.loop-k.room {f' = 33 - (k + 1)} (omega (arith, b, c.requires.1)) b c.put_field.ensures refl (add-one k ∙ sym next) d)
 
 pub returns : goal.returns
 returns c =
     let a = c.args in
     let x = join a.plan.now a.parts.now [] [] [] 0 0 in
-    c.loop-k.invariant.4 _ _ _ (fields_none x (null_walk x 7) true a.n a.end c.loop-k.k c.loop-k.counters c.loop-k.room (33 - c.loop-k.k) c.loop-k-test.false)
+    c.loop-k.invariant _ _ _ (fields_none x (null_walk x 7) true a.n a.end c.loop-k.k c.loop-k.counters c.loop-k.room (33 - c.loop-k.k) c.loop-k-test.false)

@@ -12,8 +12,4 @@ use Rattle.transform.proofs.sparse_nulls.put_fields.Given as goal
 abbrev pub invariant-loop-k : goal.invariant-loop-k
 invariant-loop-k l =
     let x = join l.plan l.parts [] [] [] 0 0 in
-    (1 ≤ l.k) × (l.k ≤ l.end) × (length l.counters ≡ 96) × (length l.room ≡ length l.initial.room)
-    × Rest l.plan l.parts true (null_fields x (null_walk x 7) l.n l.end 32 1 l.initial.counters) l.initial.room (null_fields x (null_walk x 7) l.n l.end (33 - l.k) l.k l.counters) l.room
-
-abbrev pub decreases-loop-k : goal.decreases-loop-k
-decreases-loop-k l = l.end - l.k
+    Rest l.plan l.parts true (null_fields x (null_walk x 7) l.n l.end 32 1 l.initial.counters) l.initial.room (null_fields x (null_walk x 7) l.n l.end (33 - l.k) l.k l.counters) l.room

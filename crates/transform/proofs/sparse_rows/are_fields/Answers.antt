@@ -9,22 +9,13 @@ use Rattle.transform.proofs.null_ways.Laws.{never, sure}
 use Rattle.transform.proofs.sparse_rows.are_fields.Goals as goal
 
 pub loop-k-init : goal.loop-k-init
-loop-k-init c = (omega arith, λ j a b. absurd (omega arith))
-
-pub is_field-requires : goal.is_field-requires
-is_field-requires c = omega arith
+loop-k-init c = λ j a b. absurd (omega arith)
 
 pub returns-then-not-is_field : goal.returns-then-not-is_field
 returns-then-not-is_field c = λ z. never z
 
-pub overflow_add-k : goal.overflow_add-k
-overflow_add-k c = omega arith
-
-pub loop-k-smaller : goal.loop-k-smaller
-loop-k-smaller c = omega arith
-
 pub loop-k-preserved : goal.loop-k-preserved
-loop-k-preserved c = (omega arith, below_more (λ j. 1 ≤ j → numbers_at c.args.plan.now j ≡ true) c.loop-k.k c.loop-k.invariant.1 (λ p. c.is_field.ensures (sure c.if-not-is_field.false-raw)))
+loop-k-preserved c = below_more (λ j. 1 ≤ j → numbers_at c.args.plan.now j ≡ true) c.loop-k.k c.loop-k.invariant (λ p. c.is_field.ensures (sure c.if-not-is_field.false-raw))
 
 pub returns : goal.returns
-returns c = λ z k a b. c.loop-k.invariant.1 k (omega arith) a
+returns c = λ z k a b. c.loop-k.invariant k (omega arith) a

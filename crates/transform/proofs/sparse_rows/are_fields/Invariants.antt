@@ -5,7 +5,4 @@ use Rattle.transform.specs.numbers.Plan.{numbers_at}
 use Rattle.transform.proofs.sparse_rows.are_fields.Given as goal
 
 abbrev pub invariant-loop-k : goal.invariant-loop-k
-invariant-loop-k l = (1 ≤ l.k) × ((j : ℕ) → j < l.k → 1 ≤ j → numbers_at l.plan j ≡ true)
-
-abbrev pub decreases-loop-k : goal.decreases-loop-k
-decreases-loop-k l = l.n - l.k
+invariant-loop-k l = (j : ℕ) → j < l.k → 1 ≤ j → numbers_at l.plan j ≡ true

@@ -11,8 +11,5 @@ use Rattle.transform.proofs.sparse_rows.fields_ground.Given as goal
 
 abbrev pub invariant-loop-k : goal.invariant-loop-k
 invariant-loop-k l =
-    (1 ≤ l.k) × (l.k ≤ l.end) × ((source : ℕ) → fields_in (join l.plan l.parts l.lengths l.places l.body l.first source) l.row l.n l.end 32 1 ≡ fields_in (join l.plan l.parts l.lengths l.places l.body l.first source) l.row l.n l.end (33 - l.k) l.k)
+    ((source : ℕ) → fields_in (join l.plan l.parts l.lengths l.places l.body l.first source) l.row l.n l.end 32 1 ≡ fields_in (join l.plan l.parts l.lengths l.places l.body l.first source) l.row l.n l.end (33 - l.k) l.k)
     × ((t : List ℕ) → ((j : ℕ) → j < l.end → rows t j ≡ grown (rows l.counters j) l.n) → l.g ≡ verdict (every (within_at l.plan t l.parts l.m) l.k) (every (hold_at l.plan t l.parts l.m) l.k))
-
-abbrev pub decreases-loop-k : goal.decreases-loop-k
-decreases-loop-k l = l.end - l.k

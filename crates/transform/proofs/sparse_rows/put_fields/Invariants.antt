@@ -11,8 +11,5 @@ use Rattle.transform.proofs.sparse_rows.put_fields.Given as goal
 
 abbrev pub invariant-loop-k : goal.invariant-loop-k
 invariant-loop-k l =
-    (1 ≤ l.k) × (l.k ≤ l.end) × (length l.counters ≡ 96) × (length l.room ≡ length l.initial.room) × (fields_in (join l.plan l.parts l.lengths l.places l.body l.first 0) l.row l.n l.end (33 - l.k) l.k ≡ true)
+    (fields_in (join l.plan l.parts l.lengths l.places l.body l.first 0) l.row l.n l.end (33 - l.k) l.k ≡ true)
     × ((source : ℕ) → Rest l.plan l.parts true (copy_fields (join l.plan l.parts l.lengths l.places l.body l.first source) (copy_walk (join l.plan l.parts l.lengths l.places l.body l.first source) 7) l.row l.n l.end 32 1 l.initial.counters) l.initial.room (copy_fields (join l.plan l.parts l.lengths l.places l.body l.first source) (copy_walk (join l.plan l.parts l.lengths l.places l.body l.first source) 7) l.row l.n l.end (33 - l.k) l.k l.counters) l.room)
-
-abbrev pub decreases-loop-k : goal.decreases-loop-k
-decreases-loop-k l = l.end - l.k

@@ -3,7 +3,4 @@ use Rattle.transform.proofs.tried_counters.Laws.{Full}
 use Rattle.transform.proofs.tried_counters.uncounted.Given as goal
 
 abbrev pub invariant-loop-i : goal.invariant-loop-i
-invariant-loop-i l = (l.i ≤ l.n) × Full l.counters l.tally l.n l.i
-
-abbrev pub decreases-loop-i : goal.decreases-loop-i
-decreases-loop-i l = l.n - l.i
+invariant-loop-i l = Full l.counters l.tally l.n l.i

@@ -35,12 +35,12 @@ returns-then-g-ne0-2 c =
 pub reload-requires : goal.reload-requires
 reload-requires c =
     let z = c.args in
-    (null_long (join z.plan.now z.parts.now [] [] [] 0 0) z.n _ _ (ap length c.load-tally.ensures ∙ c.requires.0) c.extend_nulls-g.ensures.counters, c.requires.0, c.node_count-nodes.ensures.upper_bound, null_tried (join z.plan.now z.parts.now [] [] [] 0 0) (length z.room.now) c.requires.1 _ c.node_count-nodes.ensures.value z.n _ _ z.counters.now c.load-tally.ensures c.extend_nulls-g.ensures.counters)
+    (c.requires.0, c.node_count-nodes.ensures.upper_bound, null_tried (join z.plan.now z.parts.now [] [] [] 0 0) (length z.room.now) c.requires.1 _ c.node_count-nodes.ensures.value z.n _ _ z.counters.now c.load-tally.ensures c.extend_nulls-g.ensures.counters)
 
 pub keep-requires : goal.keep-requires
 keep-requires c =
     let z = c.args in
-    (c.requires.0, null_long (join z.plan.now z.parts.now [] [] [] 0 0) z.n _ _ (ap length c.reload.ensures ∙ c.requires.0) c.extend_nulls-g-2.ensures.counters, c.node_count-nodes.ensures.upper_bound, null_made (join z.plan.now z.parts.now [] [] [] 0 0) (length z.room.now) c.requires.1 _ c.node_count-nodes.ensures.value z.n _ _ z.counters.now c.reload.ensures c.extend_nulls-g-2.ensures.counters)
+    (c.requires.0, c.node_count-nodes.ensures.upper_bound, null_made (join z.plan.now z.parts.now [] [] [] 0 0) (length z.room.now) c.requires.1 _ c.node_count-nodes.ensures.value z.n _ _ z.counters.now c.reload.ensures c.extend_nulls-g-2.ensures.counters)
 
 pub returns : goal.returns
 returns c =

@@ -13,7 +13,7 @@ use Rattle.transform.proofs.tried_counters.Laws.{copy_tried, copy_made, copy_lon
 use Rattle.transform.proofs.tried_walks.copy_rows.Goals as goal
 
 pub uncounted-requires : goal.uncounted-requires
-uncounted-requires c = (refl, c.requires.0, c.node_count-nodes.ensures.upper_bound)
+uncounted-requires c = (c.requires.0, c.node_count-nodes.ensures.upper_bound)
 
 pub extend-g-requires : goal.extend-g-requires
 extend-g-requires c = (c.requires.1, c.requires.2)
@@ -38,7 +38,7 @@ returns-then-g-ne0-2 c =
 pub reload-requires : goal.reload-requires
 reload-requires c =
     let z = c.args in
-    (copy_long (join z.plan.now z.parts.now z.lengths.now z.places.now z.body.now z.first z.source) z.start z.n _ _ (c.uncounted.ensures.alike.size ∙ c.requires.0) c.extend-g.ensures.counters, c.requires.0, c.node_count-nodes.ensures.upper_bound, copy_tried (join z.plan.now z.parts.now z.lengths.now z.places.now z.body.now z.first z.source) (length z.room.now) c.requires.3 _ c.node_count-nodes.ensures.value z.start z.n _ _ z.counters.now c.uncounted.ensures.beyond c.extend-g.ensures.counters)
+    (c.requires.0, c.node_count-nodes.ensures.upper_bound, copy_tried (join z.plan.now z.parts.now z.lengths.now z.places.now z.body.now z.first z.source) (length z.room.now) c.requires.3 _ c.node_count-nodes.ensures.value z.start z.n _ _ z.counters.now c.uncounted.ensures.beyond c.extend-g.ensures.counters)
 
 pub extend-g-requires-2 : goal.extend-g-requires-2
 extend-g-requires-2 c = (c.requires.1, c.requires.2)
@@ -46,7 +46,7 @@ extend-g-requires-2 c = (c.requires.1, c.requires.2)
 pub keep-requires : goal.keep-requires
 keep-requires c =
     let z = c.args in
-    (c.requires.0, copy_long (join z.plan.now z.parts.now z.lengths.now z.places.now z.body.now z.first z.source) z.start z.n _ _ (ap length c.reload.ensures ∙ c.requires.0) c.extend-g-2.ensures.counters, c.node_count-nodes.ensures.upper_bound, copy_made (join z.plan.now z.parts.now z.lengths.now z.places.now z.body.now z.first z.source) (length z.room.now) c.requires.3 _ c.node_count-nodes.ensures.value z.start z.n _ _ z.counters.now c.reload.ensures c.extend-g-2.ensures.counters)
+    (c.requires.0, c.node_count-nodes.ensures.upper_bound, copy_made (join z.plan.now z.parts.now z.lengths.now z.places.now z.body.now z.first z.source) (length z.room.now) c.requires.3 _ c.node_count-nodes.ensures.value z.start z.n _ _ z.counters.now c.reload.ensures c.extend-g-2.ensures.counters)
 
 pub returns : goal.returns
 returns c =
