@@ -110,7 +110,7 @@ pub extern "C" fn lafkuno_leaf_extend_offsets_i32(
     ensures value { result ≡ (if inside_offsets (length room.old) at (length (was body)) from 4 n then 0 else 18446744073709551615) }
 {
     if within_offsets(room.len(), at, body.len(), from, 4, n) {
-        utils::extend_offsets_i32(room, at, body, from, n, last);
+        utils::extend_offsets(room, at, body, from, n, last);
         return 0;
     }
     REFUSED
@@ -129,7 +129,7 @@ pub extern "C" fn lafkuno_leaf_extend_offsets_i64(
     ensures value { result ≡ (if inside_offsets (length room.old) at (length (was body)) from 8 n then 0 else 18446744073709551615) }
 {
     if within_offsets(room.len(), at, body.len(), from, 8, n) {
-        utils::extend_offsets_i64(room, at, body, from, n, last);
+        utils::extend_offsets(room, at, body, from, n, last);
         return 0;
     }
     REFUSED
@@ -148,7 +148,7 @@ pub extern "C" fn lafkuno_leaf_extend_with_offset_u8(
     ensures value { result ≡ (if inside_both (length room.old) at (length (was body)) from 1 n then 0 else 18446744073709551615) }
 {
     if within_both(room.len(), at, body.len(), from, 1, n) {
-        utils::primitive::extend_with_offset_u8(room, at, body, from, n, base);
+        utils::primitive::extend_with_offset(room, at, body, from, n, base);
         return 0;
     }
     REFUSED
@@ -167,7 +167,7 @@ pub extern "C" fn lafkuno_leaf_extend_with_offset_u16(
     ensures value { result ≡ (if inside_both (length room.old) at (length (was body)) from 2 n then 0 else 18446744073709551615) }
 {
     if within_both(room.len(), at, body.len(), from, 2, n) {
-        utils::primitive::extend_with_offset_u16(room, at, body, from, n, base);
+        utils::primitive::extend_with_offset(room, at, body, from, n, base);
         return 0;
     }
     REFUSED
@@ -186,7 +186,7 @@ pub extern "C" fn lafkuno_leaf_extend_with_offset_u32(
     ensures value { result ≡ (if inside_both (length room.old) at (length (was body)) from 4 n then 0 else 18446744073709551615) }
 {
     if within_both(room.len(), at, body.len(), from, 4, n) {
-        utils::primitive::extend_with_offset_u32(room, at, body, from, n, base);
+        utils::primitive::extend_with_offset(room, at, body, from, n, base);
         return 0;
     }
     REFUSED

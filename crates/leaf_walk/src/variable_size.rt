@@ -21,9 +21,9 @@ pub fn try_offsets(body: &[u8], from: usize, w: u64, n: usize, last: u64) -> uti
     ensures { result ≡ extended w (was body) from n last }
 {
     if w == 4 {
-        return utils::try_offsets_i32(body, from, n, last);
+        return utils::try_offsets::<u32>(body, from, n, last);
     }
-    utils::try_offsets_i64(body, from, n, last)
+    utils::try_offsets::<u64>(body, from, n, last)
 }
 
 // Whether n bytes from the byte `lead` of the data at `at` on lie in the body.

@@ -6,6 +6,8 @@ ghost use Rattle.schema.specs.formats.Code.{width_of};
 ghost use Rattle.walk.specs.State.{bytes_of};
 ghost use Rattle.walk.specs.Log.{put, apply_if};
 
+use number::Unsigned;
+use utils::primitive::{extend_with_offset, extend_with_offset_signed};
 use walk::plan_words;
 
 // The first n unsigned keys of w bytes of those at `from`, each plus base, at `at`.
@@ -23,24 +25,10 @@ fn write_unsigned_keys(
     ensures { room.new ≡ splice at (rebased w body.now from base n) room.old }
 {
     match w {
-        1 => utils::primitive::extend_with_offset_u8(room, at, body, from, n, (base % 256) as u8),
-        2 => utils::primitive::extend_with_offset_u16(
-            room,
-            at,
-            body,
-            from,
-            n,
-            (base % 65536) as u16,
-        ),
-        4 => utils::primitive::extend_with_offset_u32(
-            room,
-            at,
-            body,
-            from,
-            n,
-            (base % 4294967296) as u32,
-        ),
-        _ => utils::primitive::extend_with_offset_u64(room, at, body, from, n, base),
+        1 => extend_with_offset(room, at, body, from, n, u8::truncate(base)),
+        2 => extend_with_offset(room, at, body, from, n, u16::truncate(base)),
+        4 => extend_with_offset(room, at, body, from, n, u32::truncate(base)),
+        _ => extend_with_offset(room, at, body, from, n, base),
     }
 }
 
@@ -61,24 +49,10 @@ fn write_keys(
     ensures { room.new ≡ splice at (rebased w body.now from base n) room.old }
 {
     match code {
-        1 => utils::primitive::extend_with_offset_i8(room, at, body, from, n, (base % 256) as u8),
-        3 => utils::primitive::extend_with_offset_i16(
-            room,
-            at,
-            body,
-            from,
-            n,
-            (base % 65536) as u16,
-        ),
-        5 => utils::primitive::extend_with_offset_i32(
-            room,
-            at,
-            body,
-            from,
-            n,
-            (base % 4294967296) as u32,
-        ),
-        7 => utils::primitive::extend_with_offset_i64(room, at, body, from, n, base),
+        1 => extend_with_offset_signed::<i8>(room, at, body, from, n, base),
+        3 => extend_with_offset_signed::<i16>(room, at, body, from, n, base),
+        5 => extend_with_offset_signed::<i32>(room, at, body, from, n, base),
+        7 => extend_with_offset_signed::<i64>(room, at, body, from, n, base),
         _ => write_unsigned_keys(room, at, w, body, from, n, base),
     }
 }

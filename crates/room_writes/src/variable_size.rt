@@ -4,6 +4,7 @@ ghost use Rattle.number.specs.Number.{splice};
 ghost use Rattle.utils.specs.Offsets.{moved_offsets, repeated, counted_up};
 ghost use Rattle.walk.specs.Log.{put, apply_if};
 
+use number::Unsigned;
 use walk::plan_words;
 
 // The n offsets of w bytes after the first of those at `from`, moved to follow `last`, at `at`.
@@ -13,8 +14,8 @@ fn write_offsets(room: &mut [u8], at: usize, w: u64, body: &[u8], from: usize, n
     ensures { room.new ≡ splice at (moved_offsets w body.now from last n) room.old }
 {
     match w {
-        4 => utils::extend_offsets_i32(room, at, body, from, n, (last % 4294967296) as u32),
-        _ => utils::extend_offsets_i64(room, at, body, from, n, last),
+        4 => utils::extend_offsets(room, at, body, from, n, u32::truncate(last)),
+        _ => utils::extend_offsets(room, at, body, from, n, last),
     }
 }
 
@@ -59,8 +60,8 @@ fn write_repeated(room: &mut [u8], at: usize, w: u64, n: usize, v: u64)
     ensures { room.new ≡ splice at (repeated w v n) room.old }
 {
     match w {
-        4 => utils::repeat_offset_i32(room, at, n, (v % 4294967296) as u32),
-        _ => utils::repeat_offset_i64(room, at, n, v),
+        4 => utils::repeat_offset(room, at, n, u32::truncate(v)),
+        _ => utils::repeat_offset(room, at, n, v),
     }
 }
 

@@ -1,11 +1,37 @@
 -- Laws of offsets, over every width. Assumes nothing.
-use Rattle.std.proofs.Common.{◌≡◌, ℕ, zero, suc, ◌+◌, ◌-◌, ◌*◌, ◌%◌, ◌^◌, ◌<◌, ◌≤◌, min, Bool, true, false, ltb, List, length, drop, sym, refl, ap, ◌∙◌, add-zero, mod-eq_of_lt, mul-zero, arith, ltb-false, ltb-true, le-ltb, lt-ltb}
-use native.Mathlib.Nat.{add-mod_right, mod-eq-sub-mod}
+use Rattle.std.proofs.Common.{◌≡◌, ℕ, zero, suc, ◌+◌, ◌-◌, ◌*◌, ◌/◌, ◌%◌, ◌^◌, ◌<◌, ◌≤◌, min, Bool, true, false, ltb, List, length, get_or, get_or-drop, drop, refl, ap, ◌∙◌, add-zero, mul-zero, arith, ltb-false, ltb-true, le-ltb, lt-ltb}
+use native.Mathlib.Nat.{add-mod-mod, mul-le-mul_left, pow-le-pow_right}
 use Rattle.number.specs.Number.{number, encode, entry, splice}
+use Rattle.number.specs.Sizes.{Sized}
+use Rattle.number.proofs.Laws.{number_lt}
 use Rattle.utils.specs.Offsets.{largest, moved, first_above, moved_offsets, repeated, counted_up}
 use Rattle.utils.specs.Extension.{over_at, extended}
 use Rattle.utils.specs.declared.Extended.TheVariants.{Fits, Over, Falls}
 use Rattle.utils.proofs.Pieces.{pieces_none, numbers_step}
+
+-- entry i of n, and the next one, where they stand
+pub next_within : (w i n : ℕ) → i < n → w * i + w ≤ w * n
+next_within w i n h = let l : suc i ≤ n = omega arith in omega (arith, mul-le-mul_left w l)
+
+-- the largest offset, by a shift
+pub shifted : (w : ℕ) → Sized w → 18446744073709551615 / 2 ^ (65 - 8 * w) ≡ largest w
+shifted zero h = absurd (omega (arith, h.some))
+shifted (suc zero) h = refl
+shifted (suc (suc zero)) h = refl
+shifted (suc (suc (suc zero))) h = refl
+shifted (suc (suc (suc (suc zero)))) h = refl
+shifted (suc (suc (suc (suc (suc zero))))) h = refl
+shifted (suc (suc (suc (suc (suc (suc zero)))))) h = refl
+shifted (suc (suc (suc (suc (suc (suc (suc zero))))))) h = refl
+shifted (suc (suc (suc (suc (suc (suc (suc (suc zero)))))))) h = refl
+shifted (suc (suc (suc (suc (suc (suc (suc (suc (suc w))))))))) h = absurd (omega (arith, h.eight))
+
+pub below_cut : (w : ℕ) → Sized w → largest w < 18446744073709551615
+below_cut w h = let p : 256 ^ w ≤ 256 ^ 8 = pow-le-pow_right (omega arith) h.eight in omega arith
+
+-- an entry of bytes fits its width
+pub entry_lt : (w : ℕ) (s : List ℕ) (from k : ℕ) → ((i : ℕ) → get_or s i 0 < 256) → entry w s from k < 256 ^ w
+entry_lt w s from k b = number_lt w (drop (from + w * k) s) (λ i. rw get_or-drop (b (from + w * k + i)))
 
 pub first_entry_lem : (w : ℕ) (s : List ℕ) (from : ℕ) → number w (drop from s) ≡ entry w s from 0
 first_entry_lem w s from = simp (mul-zero, add-zero)
@@ -34,9 +60,6 @@ not_last max f n k l h g = go (ltb k n) refl
 pub some_row : (w : ℕ) (s : List ℕ) (from n last : ℕ) → last ≤ largest w → largest w < moved w s from last n → 0 < n
 some_row w s from n last h g = not_last (largest w) (λ k. moved w s from last k) n 0 (omega arith) g (omega arith)
 
-pub next_row : (w : ℕ) (s : List ℕ) (from n last k : ℕ) → k < n → largest w < moved w s from last n → moved w s from last (k + 1) ≤ largest w → k + 1 < n
-next_row w s from n last k l g h = not_last (largest w) (λ j. moved w s from last j) n (k + 1) (omega arith) g h
-
 -- the search ends at the first row whose new offset is above the largest
 pub over_found : (w : ℕ) (s : List ℕ) (from n last k needed : ℕ) → k < n → ((j : ℕ) → j < k → moved w s from last (j + 1) ≤ largest w)
     → needed ≡ min (moved w s from last (k + 1)) 18446744073709551615 → largest w < needed → Over k needed ≡ over_at w s from n last
@@ -44,10 +67,6 @@ unfolding over_at
 over_found w s from n last k needed l h e g =
     let o : largest w < moved w s from last (k + 1) = omega arith in
     rw (first_is (largest w) (λ j. moved w s from last (j + 1)) n k l h o, e)
-
--- what is known of a number that was cut, below the cut
-pub uncut_le : (x cut m : ℕ) → cut ≡ min x 18446744073709551615 → cut ≤ m → m < 18446744073709551615 → x ≤ m
-uncut_le x cut m e h g = omega arith
 
 -- ---- the four answers
 
@@ -84,33 +103,20 @@ module _ (w : ℕ) (s : List ℕ) (from n last first end : ℕ) (ef : first ≡ 
 -- ---- a turn of each loop
 
 -- what the machine adds to each offset
-shift_is : (m o first last shift : ℕ) → shift < m → first < m → last < m → (shift + first) % m ≡ last → (o + shift) % m ≡ (last + (o + m - first)) % m
-shift_is m o first last shift hs hf hl e = go (ltb (shift + first) m) refl
-  where
-    go : (b : Bool) → ltb (shift + first) m ≡ b → (o + shift) % m ≡ (last + (o + m - first)) % m
-    go true t =
-        let h : shift + first < m = ltb-true _ _ t in
-        let l : shift + first ≡ last = sym (mod-eq_of_lt h) ∙ e in
-        let a : last + (o + m - first) ≡ o + shift + m = omega arith in
-        rw (a, add-mod_right)
-    go false t =
-        let h : m ≤ shift + first = ltb-false _ _ t in
-        let d : shift + first - m < m = omega arith in
-        let l : shift + first - m ≡ last = sym (mod-eq_of_lt d) ∙ sym (mod-eq-sub-mod h) ∙ e in
-        let a : last + (o + m - first) ≡ o + shift = omega arith in
-        rw a
+shift_is : (m o first last : ℕ) → first < m → (o + (last + (m - first)) % m) % m ≡ (last + (o + m - first)) % m
+shift_is m o first last h = add-mod-mod o (last + (m - first)) m ∙ ap (λ (x : ℕ). x % m) (omega arith)
 
 pub moved_none : (w : ℕ) (s : List ℕ) (from last at : ℕ) (room : List ℕ) → splice at (moved_offsets w s from last 0) room ≡ room
 unfolding moved_offsets
 moved_none w s from last at room = pieces_none _ at room
 
 pub moved_step : (w : ℕ) (room s : List ℕ) (at from last shift i : ℕ) → at + w * (i + 1) ≤ length room
-    → shift < 256 ^ w → entry w s from 0 < 256 ^ w → last < 256 ^ w → (shift + entry w s from 0) % 256 ^ w ≡ last
+    → entry w s from 0 < 256 ^ w → shift ≡ (last + (256 ^ w - entry w s from 0)) % 256 ^ w
     → splice (at + w * i) (encode w ((entry w s from (i + 1) + shift) % 256 ^ w)) (splice at (moved_offsets w s from last i) room)
     ≡ splice at (moved_offsets w s from last (i + 1)) room
 unfolding moved_offsets
-moved_step w room s at from last shift i g hs hf hl e =
-    rw (shift_is (256 ^ w) (entry w s from (i + 1)) (entry w s from 0) last shift hs hf hl e)
+moved_step w room s at from last shift i g h e =
+    rw (e, shift_is (256 ^ w) (entry w s from (i + 1)) (entry w s from 0) last h)
     (numbers_step w (λ k. (last + (entry w s from (k + 1) + 256 ^ w - entry w s from 0)) % 256 ^ w) room at i g)
 
 pub repeated_none : (w v at : ℕ) (room : List ℕ) → splice at (repeated w v 0) room ≡ room

@@ -4,6 +4,8 @@ ghost use Rattle.std.specs.Prelude.{◌≡◌, ◌+◌, ◌*◌, ◌≤◌, leng
 ghost use Rattle.number.specs.Number.{splice};
 ghost use Rattle.utils.specs.byte_view.View.{view_at, view_bytes, reindexed_by, reviewed};
 
+use number::Unsigned;
+
 // The bytes that a view holds inline.
 pub const MAX_INLINE_VIEW_LEN: u32 = 12;
 
@@ -20,15 +22,11 @@ pub fn from_bytes(s: &[u8], at: usize) -> ByteView
     requires { at + 16 ≤ length s.now }
     ensures { result ≡ view_at s.now at }
 {
-    let length = number::read_u32(s, at);
-    let prefix = number::read_u32(s, at + 4);
-    let buffer_index = number::read_u32(s, at + 8);
-    let offset = number::read_u32(s, at + 12);
     ByteView {
-        length,
-        prefix,
-        buffer_index,
-        offset,
+        length: u32::read(s, at),
+        prefix: u32::read(s, at + 4),
+        buffer_index: u32::read(s, at + 8),
+        offset: u32::read(s, at + 12),
     }
 }
 
@@ -37,25 +35,22 @@ pub fn write_view(room: &mut [u8], at: usize, v: ByteView)
     requires { at + 16 ≤ length room.old }
     ensures { room.new ≡ splice at (view_bytes v) room.old }
 {
-    number::write_u32(room, at, v.length);
-    number::write_u32(room, at + 4, v.prefix);
-    number::write_u32(room, at + 8, v.buffer_index);
-    number::write_u32(room, at + 12, v.offset);
+    v.length.write(room, at);
+    v.prefix.write(room, at + 4);
+    v.buffer_index.write(room, at + 8);
+    v.offset.write(room, at + 12);
 }
 
 // The view after `base` data buffers of earlier sources: a view of inline bytes stays.
 pub fn reindexed(v: ByteView, base: u32) -> ByteView
     ensures { result ≡ reindexed_by base v }
 {
-    let length = v.length;
-    if length <= MAX_INLINE_VIEW_LEN {
+    if v.length <= MAX_INLINE_VIEW_LEN {
         return v;
     }
     ByteView {
-        length,
-        prefix: v.prefix,
-        buffer_index: std::num::wrapping_add_u32(v.buffer_index, base),
-        offset: v.offset,
+        buffer_index: v.buffer_index.wrapping_add(base),
+        ..v
     }
 }
 
@@ -65,10 +60,8 @@ pub fn extend_views(room: &mut [u8], at: usize, body: &[u8], from: usize, n: usi
     requires n_in_bounds_2 { from + 16 * n ≤ length body.now }
     ensures { room.new ≡ splice at (reviewed body.now from base n) room.old }
 {
-    let mut i = 0;
-    while i < n {
+    for i in 0..n {
         let v = from_bytes(body, from + 16 * i);
         write_view(room, at + 16 * i, reindexed(v, base));
-        i += 1;
     }
 }

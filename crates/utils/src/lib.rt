@@ -1,4 +1,4 @@
-// The room of bits, and the extension of offsets at both widths.
+// The room of bits, and the extension of offsets of any width.
 // Follows arrow-data 60.1.0 src/transform/utils.rs and the extend_nulls of src/transform/variable_size.rs, Apache-2.0; see NOTICE.
 #![tactic(auto)]
 
@@ -9,6 +9,8 @@ ghost use Rattle.std.specs.Prelude.{◌≡◌, ◌+◌, ◌-◌, ◌*◌, ◌/�
 ghost use Rattle.number.specs.Number.{splice};
 ghost use Rattle.utils.specs.Offsets.{largest, moved, first_above, moved_offsets, repeated, counted_up};
 ghost use Rattle.utils.specs.Extension.{extended, over_at};
+
+use number::Unsigned;
 
 // What an extension of offsets comes to.
 #[derive(Clone, Copy)]
@@ -25,152 +27,88 @@ pub enum Extended {
 pub fn bit_room(bits: usize) -> usize
     ensures { result ≡ (bits + 7) / 8 }
 {
-    if bits % 8 == 0 {
-        return bits / 8;
-    }
-    bits / 8 + 1
+    bits.div_ceil(8)
+}
+
+// The largest offset of N's width, which is a signed number.
+fn largest_offset<N: Unsigned>() -> u64
+    ensures { result ≡ largest N.SIZE }
+{
+    u64::MAX >> (65 - 8 * N::SIZE)
 }
 
 // The offset that follows `last` as far as o follows `first`, cut to 2^64 - 1.
 fn moved_to(last: u64, first: u64, o: u64) -> u64
     ensures { result ≡ min (last + (o - first)) 18446744073709551615 }
 {
-    if o < first {
-        return last;
-    }
-    if u64::MAX - last < o - first {
-        return u64::MAX;
-    }
-    last + (o - first)
+    last.saturating_add(o.saturating_sub(first))
 }
 
 // The first row whose new offset does not fit, where the last row's does not.
-fn over_i32(body: &[u8], from: usize, n: usize, last: u64) -> Extended
-    requires n_in_bounds { from + 4 * (n + 1) ≤ length body.now }
-    requires last_bound { (last ≤ largest 4) × (largest 4 < moved 4 body.now from last n) }
-    ensures { result ≡ over_at 4 body.now from n last }
+fn over<N: Unsigned>(body: &[u8], from: usize, n: usize, last: u64) -> Extended
+    requires n_in_bounds { from + N.SIZE * (n + 1) ≤ length body.now }
+    requires last_bound { (last ≤ largest N.SIZE) × (largest N.SIZE < moved N.SIZE body.now from last n) }
+    ensures { result ≡ over_at N.SIZE body.now from n last }
 {
-    let first = number::read_u32(body, from) as u64;
-    let mut k = 0;
-    let mut needed = moved_to(last, first, number::read_u32(body, from + 4) as u64);
-    while needed <= 2147483647 {
-        k += 1;
-        needed = moved_to(
-            last,
-            first,
-            number::read_u32(body, from + 4 * (k + 1)) as u64,
-        );
+    let first = N::read(body, from).to_u64();
+    for row in 0..n - 1 {
+        let o = N::read(body, from + N::SIZE * (row + 1)).to_u64();
+        let needed = moved_to(last, first, o);
+        if largest_offset::<N>() < needed {
+            return Extended::Over { row, needed };
+        }
     }
-    Extended::Over { row: k, needed }
+    let end = N::read(body, from + N::SIZE * n).to_u64();
+    Extended::Over {
+        row: n - 1,
+        needed: moved_to(last, first, end),
+    }
 }
 
 // Whether n offsets after the first of those at `from` fit after `last`.
-pub fn try_offsets_i32(body: &[u8], from: usize, n: usize, last: u64) -> Extended
-    requires { from + 4 * (n + 1) ≤ length body.now }
-    ensures { result ≡ extended 4 body.now from n last }
+pub fn try_offsets<N: Unsigned>(body: &[u8], from: usize, n: usize, last: u64) -> Extended
+    requires { from + N.SIZE * (n + 1) ≤ length body.now }
+    ensures { result ≡ extended N.SIZE body.now from n last }
 {
-    let first = number::read_u32(body, from) as u64;
-    let end = number::read_u32(body, from + 4 * n) as u64;
-    if end < first {
-        return Extended::Falls;
-    }
-    if 2147483647 < last {
+    let first = N::read(body, from).to_u64();
+    let end = N::read(body, from + N::SIZE * n).to_u64();
+    if end < first || largest_offset::<N>() < last {
         return Extended::Falls;
     }
     let next = moved_to(last, first, end);
-    if 2147483647 < next {
-        return over_i32(body, from, n, last);
+    if largest_offset::<N>() < next {
+        return over::<N>(body, from, n, last);
     }
     Extended::Fits { last: next, first }
 }
 
 // The n offsets after the first of those at `from`, moved to follow `last`, into room at `at`.
-pub fn extend_offsets_i32(room: &mut [u8], at: usize, body: &[u8], from: usize, n: usize, last: u32)
-    requires n_in_bounds { at + 4 * n ≤ length room.old }
-    requires n_in_bounds_2 { from + 4 * (n + 1) ≤ length body.now }
-    ensures { room.new ≡ splice at (moved_offsets 4 body.now from last n) room.old }
+pub fn extend_offsets<N: Unsigned>(
+    room: &mut [u8],
+    at: usize,
+    body: &[u8],
+    from: usize,
+    n: usize,
+    last: N,
+)
+    requires n_in_bounds { at + N.SIZE * n ≤ length room.old }
+    requires n_in_bounds_2 { from + N.SIZE * (n + 1) ≤ length body.now }
+    ensures { room.new ≡ splice at (moved_offsets N.SIZE body.now from (N.amount last) n) room.old }
 {
-    let shift = std::num::wrapping_sub_u32(last, number::read_u32(body, from));
-    let mut i = 0;
-    while i < n {
-        let o = number::read_u32(body, from + 4 * (i + 1));
-        number::write_u32(room, at + 4 * i, std::num::wrapping_add_u32(o, shift));
-        i += 1;
+    let shift = last.wrapping_sub(N::read(body, from));
+    for i in 0..n {
+        let o = N::read(body, from + N::SIZE * (i + 1));
+        o.wrapping_add(shift).write(room, at + N::SIZE * i);
     }
 }
 
 // The offset v, n times: a null repeats the last offset.
-pub fn repeat_offset_i32(room: &mut [u8], at: usize, n: usize, v: u32)
-    requires { at + 4 * n ≤ length room.old }
-    ensures { room.new ≡ splice at (repeated 4 v n) room.old }
+pub fn repeat_offset<N: Unsigned>(room: &mut [u8], at: usize, n: usize, v: N)
+    requires { at + N.SIZE * n ≤ length room.old }
+    ensures { room.new ≡ splice at (repeated N.SIZE (N.amount v) n) room.old }
 {
-    let mut i = 0;
-    while i < n {
-        number::write_u32(room, at + 4 * i, v);
-        i += 1;
-    }
-}
-
-// The first row whose new offset does not fit, where the last row's does not.
-fn over_i64(body: &[u8], from: usize, n: usize, last: u64) -> Extended
-    requires n_in_bounds { from + 8 * (n + 1) ≤ length body.now }
-    requires last_bound { (last ≤ largest 8) × (largest 8 < moved 8 body.now from last n) }
-    ensures { result ≡ over_at 8 body.now from n last }
-{
-    let first = number::read_u64(body, from);
-    let mut k = 0;
-    let mut needed = moved_to(last, first, number::read_u64(body, from + 8));
-    while needed <= 9223372036854775807 {
-        k += 1;
-        needed = moved_to(last, first, number::read_u64(body, from + 8 * (k + 1)));
-    }
-    Extended::Over { row: k, needed }
-}
-
-// Whether n offsets after the first of those at `from` fit after `last`.
-pub fn try_offsets_i64(body: &[u8], from: usize, n: usize, last: u64) -> Extended
-    requires { from + 8 * (n + 1) ≤ length body.now }
-    ensures { result ≡ extended 8 body.now from n last }
-{
-    let first = number::read_u64(body, from);
-    let end = number::read_u64(body, from + 8 * n);
-    if end < first {
-        return Extended::Falls;
-    }
-    if 9223372036854775807 < last {
-        return Extended::Falls;
-    }
-    let next = moved_to(last, first, end);
-    if 9223372036854775807 < next {
-        return over_i64(body, from, n, last);
-    }
-    Extended::Fits { last: next, first }
-}
-
-// The n offsets after the first of those at `from`, moved to follow `last`, into room at `at`.
-pub fn extend_offsets_i64(room: &mut [u8], at: usize, body: &[u8], from: usize, n: usize, last: u64)
-    requires n_in_bounds { at + 8 * n ≤ length room.old }
-    requires n_in_bounds_2 { from + 8 * (n + 1) ≤ length body.now }
-    ensures { room.new ≡ splice at (moved_offsets 8 body.now from last n) room.old }
-{
-    let shift = std::num::wrapping_sub_u64(last, number::read_u64(body, from));
-    let mut i = 0;
-    while i < n {
-        let o = number::read_u64(body, from + 8 * (i + 1));
-        number::write_u64(room, at + 8 * i, std::num::wrapping_add_u64(o, shift));
-        i += 1;
-    }
-}
-
-// The offset v, n times: a null repeats the last offset.
-pub fn repeat_offset_i64(room: &mut [u8], at: usize, n: usize, v: u64)
-    requires { at + 8 * n ≤ length room.old }
-    ensures { room.new ≡ splice at (repeated 8 v n) room.old }
-{
-    let mut i = 0;
-    while i < n {
-        number::write_u64(room, at + 8 * i, v);
-        i += 1;
+    for i in 0..n {
+        v.write(room, at + N::SIZE * i);
     }
 }
 
@@ -180,10 +118,8 @@ pub fn count_up_i32(room: &mut [u8], at: usize, n: usize, first: u32)
     ensures { room.new ≡ splice at (counted_up 4 first n) room.old }
 {
     let mut position = first;
-    let mut i = 0;
-    while i < n {
-        number::write_u32(room, at + 4 * i, position);
-        position = std::num::wrapping_add_u32(position, 1);
-        i += 1;
+    for i in 0..n {
+        position.write(room, at + 4 * i);
+        position = position.wrapping_add(1);
     }
 }

@@ -1,42 +1,12 @@
 -- `utils::count_up_i32` meets its contract: room has i numbers at `at`, and position is the next. Assumes nothing.
-use Rattle.std.proofs.Common.{◌≡◌, ◌-◌, sym, refl, ◌∙◌, arith}
+use Rattle.std.proofs.Common.{sym, arith}
 use Rattle.utils.proofs.Laws.{counted_none, counted_step}
 use Rattle.utils.proofs.count_up_i32.Goals as goal
 
 pub loop-i-init : goal.loop-i-init
-loop-i-init c = (omega arith, refl, omega arith, sym (counted_none _ _ _ _))
-
-pub overflow_mul-i : goal.overflow_mul-i
-overflow_mul-i c = omega arith
-
-pub overflow_add-at : goal.overflow_add-at
-overflow_add-at c = omega arith
-
-pub write_u32-requires : goal.write_u32-requires
-write_u32-requires c = omega arith
-
-pub wrapping_add_u32-position-requires : goal.wrapping_add_u32-position-requires
-wrapping_add_u32-position-requires c = tt
-
-pub overflow_add-i : goal.overflow_add-i
-overflow_add-i c = omega arith
-
-pub loop-i-smaller : goal.loop-i-smaller
-loop-i-smaller c = omega arith
+loop-i-init c = (omega arith, sym (counted_none _ _ _ _))
 
 pub loop-i-preserved : goal.loop-i-preserved
 loop-i-preserved c =
-    let a = c.args in (
-      omega arith,
-      omega arith,
-      omega arith,
-      cc (counted_step 4 a.first a.room.now a.at c.loop-i.i (omega arith)),
-    )
-
-pub shape_of-room : goal.shape_of-room
-shape_of-room c = omega arith
-
-pub returns : goal.returns
-returns c =
-    let e : c.loop-i.i ≡ c.args.n = omega arith in
-    c.loop-i.invariant.3 ∙ rw e
+    let a = c.args in
+    (omega arith, cc (counted_step 4 a.first a.room.now a.at c.loop-i.i (omega arith)))

@@ -1,10 +1,7 @@
-use Rattle.std.proofs.Common.{◌≡◌, ◌+◌, ◌-◌, ◌%◌, ◌≤◌, length}
+use Rattle.std.proofs.Common.{◌≡◌, ◌+◌, ◌%◌}
 use Rattle.number.specs.Number.{splice}
 use Rattle.utils.specs.Offsets.{counted_up}
 use Rattle.utils.proofs.count_up_i32.Given as goal
 
 abbrev pub invariant-loop-i : goal.invariant-loop-i
-invariant-loop-i l = (l.i ≤ l.n) × (length l.room ≡ length l.initial.room) × (l.position ≡ (l.first + l.i) % 4294967296) × (l.room ≡ splice l.at (counted_up 4 l.first l.i) l.initial.room)
-
-abbrev pub decreases-loop-i : goal.decreases-loop-i
-decreases-loop-i l = l.n - l.i
+invariant-loop-i l = (l.position ≡ (l.first + l.i) % 4294967296) × (l.room ≡ splice l.at (counted_up 4 l.first l.i) l.initial.room)

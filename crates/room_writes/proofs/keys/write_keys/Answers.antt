@@ -1,33 +1,30 @@
 -- `puts::write_keys` meets its contract. Assumes nothing.
 use native.Mathlib.Omega.{arith}
 use mathlib.Core.Path.{◌≡◌, ap, ◌∙◌}
-use mathlib.Core.List.{List}
 use Prim.Native.Nat.{ℕ, ◌*◌}
-use Rattle.number.specs.Number.{splice}
 use Rattle.schema.specs.formats.Code.{width_of}
-use Rattle.room_writes.proofs.Bytes.{rebased_cut}
 use Rattle.room_writes.proofs.keys.write_keys.Goals as goal
 
-pub extend_with_offset_i8-requires : goal.extend_with_offset_i8-requires
-extend_with_offset_i8-requires c =
+pub extend_with_offset_signed-requires : goal.extend_with_offset_signed-requires
+extend_with_offset_signed-requires c =
     let a = c.args in
     let e : a.w ≡ 1 = c.requires.w_value_2 ∙ ap width_of c.in-1.is in
     record { n_in_bounds = omega (arith, e, ap (λ (z : ℕ). z * a.n) e); n_in_bounds_2 = omega (arith, e, ap (λ (z : ℕ). z * a.n) e) }
 
-pub extend_with_offset_i16-requires : goal.extend_with_offset_i16-requires
-extend_with_offset_i16-requires c =
+pub extend_with_offset_signed-requires-in-3 : goal.extend_with_offset_signed-requires-in-3
+extend_with_offset_signed-requires-in-3 c =
     let a = c.args in
     let e : a.w ≡ 2 = c.requires.w_value_2 ∙ ap width_of c.in-3.is in
     record { n_in_bounds = omega (arith, e, ap (λ (z : ℕ). z * a.n) e); n_in_bounds_2 = omega (arith, e, ap (λ (z : ℕ). z * a.n) e) }
 
-pub extend_with_offset_i32-requires : goal.extend_with_offset_i32-requires
-extend_with_offset_i32-requires c =
+pub extend_with_offset_signed-requires-in-5 : goal.extend_with_offset_signed-requires-in-5
+extend_with_offset_signed-requires-in-5 c =
     let a = c.args in
     let e : a.w ≡ 4 = c.requires.w_value_2 ∙ ap width_of c.in-5.is in
     record { n_in_bounds = omega (arith, e, ap (λ (z : ℕ). z * a.n) e); n_in_bounds_2 = omega (arith, e, ap (λ (z : ℕ). z * a.n) e) }
 
-pub extend_with_offset_i64-requires : goal.extend_with_offset_i64-requires
-extend_with_offset_i64-requires c =
+pub extend_with_offset_signed-requires-in-7 : goal.extend_with_offset_signed-requires-in-7
+extend_with_offset_signed-requires-in-7 c =
     let a = c.args in
     let e : a.w ≡ 8 = c.requires.w_value_2 ∙ ap width_of c.in-7.is in
     record { n_in_bounds = omega (arith, e, ap (λ (z : ℕ). z * a.n) e); n_in_bounds_2 = omega (arith, e, ap (λ (z : ℕ). z * a.n) e) }
@@ -39,25 +36,25 @@ pub returns-in-1 : goal.returns-in-1
 returns-in-1 c =
     let a = c.args in
     let e : a.w ≡ 1 = c.requires.w_value_2 ∙ ap width_of c.in-1.is in
-    rw e (c.extend_with_offset_i8.ensures ∙ ap (λ (z : List ℕ). splice a.at z a.room.now) (rebased_cut 1 a.body.now a.from a.base a.n))
+    rw e c.extend_with_offset_signed.ensures
 
 pub returns-in-3 : goal.returns-in-3
 returns-in-3 c =
     let a = c.args in
     let e : a.w ≡ 2 = c.requires.w_value_2 ∙ ap width_of c.in-3.is in
-    rw e (c.extend_with_offset_i16.ensures ∙ ap (λ (z : List ℕ). splice a.at z a.room.now) (rebased_cut 2 a.body.now a.from a.base a.n))
+    rw e c.extend_with_offset_signed-in-3.ensures
 
 pub returns-in-5 : goal.returns-in-5
 returns-in-5 c =
     let a = c.args in
     let e : a.w ≡ 4 = c.requires.w_value_2 ∙ ap width_of c.in-5.is in
-    rw e (c.extend_with_offset_i32.ensures ∙ ap (λ (z : List ℕ). splice a.at z a.room.now) (rebased_cut 4 a.body.now a.from a.base a.n))
+    rw e c.extend_with_offset_signed-in-5.ensures
 
 pub returns-in-7 : goal.returns-in-7
 returns-in-7 c =
     let a = c.args in
     let e : a.w ≡ 8 = c.requires.w_value_2 ∙ ap width_of c.in-7.is in
-    rw e c.extend_with_offset_i64.ensures
+    rw e c.extend_with_offset_signed-in-7.ensures
 
 pub returns-in_default : goal.returns-in_default
 returns-in_default c = c.write_unsigned_keys.ensures
