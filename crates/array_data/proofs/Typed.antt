@@ -1,16 +1,15 @@
 -- Every node obeys its rule exactly where the column that the tables describe obeys the source rules. Assumes nothing.
-use mathlib.Core.Path.{◌≡◌, refl, sym, ap, subst, ◌∙◌}
+use mathlib.Core.Path.{◌≡◌, refl, sym, subst}
 use mathlib.Core.Logic.{◌⊎◌, inl, inr}
 use mathlib.Core.Bool.{Bool, true, false, ◌&&◌}
 use mathlib.Core.List.Memᴰ
 use mathlib.Core.List.{List, [], ◌∷◌, Memᴰ}
-use Prim.Native.Nat.{ℕ, zero, suc, ◌+◌, ◌*◌, ◌<◌}
+use Prim.Native.Nat.{ℕ, suc, ◌+◌, ◌*◌, ◌<◌}
 use lib.ListN.{length, get_or}
-use native.Mathlib.Omega.{arith}
 use lib.Dec.{T, leb, ltb, eqb}
 use Rattle.columnar.specs.Types.{Number, width, half, limit, Plain, fixed, string, Ty, t_plain, t_view, t_list_view, t_list, t_sparse, t_dense, t_run_end, t_dictionary}
 use Rattle.columnar.specs.Reading.{Source}
-use Rattle.columnar.specs.Test.{every, each, member, only_if, mask_test, array_test, plain_test, view_test, entry_test, offsets_rule, list_view_test, list_test, sparse_test, dense_test, ends_test, run_end_test, dictionary_test, test}
+use Rattle.columnar.specs.Test.{every, each, member, only_if, mask_test, array_test, plain_test, view_test, entry_test, offsets_rule, ends_test, test}
 use Rattle.columnar.specs.RunEnd.{start_of, end_of}
 use Rattle.columnar.specs.Array.{item, ok}
 use Rattle.columnar.proofs.Test.{test_sound, every_out, every_in}

@@ -1,11 +1,11 @@
 -- Ground 12, node by node: where a node's buffers lie, and the rule of its kind over its rows and its children's lengths
 -- (columnar's test of the kind, its children taken as they are: they are nodes of their own). Assumes nothing.
-use Rattle.std.specs.Prelude.{Bool, true, false, cond, ◌&&◌, List, [], ℕ, zero, suc, ◌+◌, ◌*◌, length, get_or, leb, ltb, eqb}
-use Rattle.std.proofs.Math.Option.{Option, none, some}
-use Rattle.columnar.specs.Types.{Number, Plain, fixed, string}
+use Rattle.std.specs.Prelude.{Bool, true, false, ◌&&◌, List, [], ℕ, suc, ◌+◌, ◌*◌, length, get_or, leb}
+use Rattle.std.proofs.Math.Option.{none}
+use Rattle.columnar.specs.Types.{Number, fixed, string}
 use Rattle.columnar.specs.Array.{Array}
 use Rattle.columnar.specs.Test.{every, array_test, plain_test, view_test, list_view_test, list_test, sparse_test, dense_test, run_end_test, dictionary_test}
-use Rattle.array_data.specs.Tables.{Tables, length_of, place, valid_of, first_buffer, second_buffer, data_buffers, array_with, held, in_body, valid_in}
+use Rattle.array_data.specs.Tables.{Tables, length_of, place, first_buffer, second_buffer, data_buffers, array_with, held, in_body, valid_in}
 
 -- a child of which only the length is looked at
 abbrev pub child_of : Tables → ℕ → Array (Unit {0})

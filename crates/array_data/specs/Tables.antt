@@ -1,5 +1,5 @@
 -- The lent tables (docs/FORMAT.md), and what a node of them stands for. Assumes nothing.
-use Rattle.std.specs.Prelude.{Bool, true, false, cond, ◌&&◌, List, [], ◌∷◌, ℕ, zero, suc, ◌+◌, ◌*◌, length, take, drop, get_or, leb, eqb}
+use Rattle.std.specs.Prelude.{Bool, true, cond, ◌&&◌, List, ℕ, suc, ◌+◌, ◌*◌, length, take, drop, get_or, leb, eqb}
 use Rattle.std.proofs.Math.Option.{Option, none, some}
 use Rattle.columnar.specs.Row.{seg}
 use Rattle.columnar.specs.Array.{Array}

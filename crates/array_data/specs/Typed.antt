@@ -1,8 +1,8 @@
 -- The type that a node of a tree stands for, and the column that lent tables describe there. Assumes nothing.
-use Rattle.std.specs.Prelude.{◌≡◌, Bool, true, false, not, cond, ◌&&◌, ◌||◌, ℕ, zero, suc, ◌*◌, ◌<◌, drop, eqb}
+use Rattle.std.specs.Prelude.{◌≡◌, Bool, not, cond, ◌&&◌, ◌||◌, ℕ, zero, suc, ◌*◌, ◌<◌, drop, eqb}
 use mathlib.Core.List.{List, [], ◌∷◌, ◌++◌, Memᴰ}
 use Rattle.columnar.specs.Types.{Number, width, Plain, fixed, string, Ty, t_plain, t_view, t_list_view, t_list, t_sparse, t_dense, t_run_end, t_dictionary}
-use Rattle.columnar.specs.Array.{Array, null_count_of}
+use Rattle.columnar.specs.Array.{null_count_of}
 use Rattle.columnar.specs.Plain.{PlainBody}
 use Rattle.columnar.specs.Reading.{Body, Column}
 use Rattle.columnar.specs.Test.{every, only_if}

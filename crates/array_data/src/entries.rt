@@ -4,20 +4,7 @@ ghost use Rattle.array_data.specs.Tables.{part, length_of, offset_of, place, val
 ghost use Rattle.array_data.specs.entries.Entries.{column, spot_in, entry_in, valid_in};
 
 use crate::lent_tables;
-
-// Where an entry stands in the body.
-#[derive(Clone, Copy)]
-pub enum Spot {
-    At(usize),
-    Outside,
-}
-
-// A number of a buffer; Outside where the body does not hold it.
-#[derive(Clone, Copy)]
-pub enum Entry {
-    Value(u64),
-    Outside,
-}
+use number::Unsigned;
 
 // Whether a slot is valid; Outside where its bit is not in the body.
 #[derive(Clone, Copy)]
@@ -53,33 +40,31 @@ pub fn place_at(places: &[u64], first: u32, i: usize, j: usize) -> u64
 
 // ---- entries of the buffer of `size` bytes from `start` on, as far as the body reaches
 
-// Where entry `slot` of w bytes begins.
-pub fn find_spot(body: &[u8], start: u64, size: u64, w: u8, slot: u64) -> Spot
+// Where entry `slot` of w bytes begins, if the body holds it.
+pub fn find_spot(body: &[u8], start: u64, size: u64, w: u8, slot: u64) -> Option<usize>
     ensures { result ≡ spot_in start w (part body.now start size) slot }
 {
     if w == 0 {
-        return Spot::Outside;
+        return None;
     }
     let len = lent_tables::part_len(body, start, size);
     if len / (w as u64) <= slot {
-        return Spot::Outside;
+        return None;
     }
-    Spot::At((start as usize) + (slot as usize) * (w as usize))
+    Some((start as usize) + (slot as usize) * (w as usize))
 }
 
-// The number in entry `slot` of w bytes, without a sign.
-pub fn read_entry(body: &[u8], start: u64, size: u64, w: u8, slot: u64) -> Entry
+// The number in entry `slot` of w bytes, without a sign, if the body holds it.
+pub fn read_entry(body: &[u8], start: u64, size: u64, w: u8, slot: u64) -> Option<u64>
     ensures { result ≡ entry_in w (part body.now start size) slot }
 {
-    let Spot::At(at) = find_spot(body, start, size, w, slot) else {
-        return Entry::Outside;
-    };
+    let at = find_spot(body, start, size, w, slot)?;
     match w {
-        1 => Entry::Value(number::read_u8(body, at) as u64),
-        2 => Entry::Value(number::read_u16(body, at) as u64),
-        4 => Entry::Value(number::read_u32(body, at) as u64),
-        8 => Entry::Value(number::read_u64(body, at)),
-        _ => Entry::Outside,
+        1 => Some(u8::read(body, at) as u64),
+        2 => Some(u16::read(body, at) as u64),
+        4 => Some(u32::read(body, at) as u64),
+        8 => Some(u64::read(body, at)),
+        _ => None,
     }
 }
 
@@ -93,7 +78,7 @@ pub fn valid_at(places: &[u64], body: &[u8], first: u32, i: usize, slot: u64) ->
     }
     let start = place_at(places, first, i, 1);
     let size = place_at(places, first, i, 2);
-    let Entry::Value(byte) = read_entry(body, start, size, 1, slot / 8) else {
+    let Some(byte) = read_entry(body, start, size, 1, slot / 8) else {
         return Validity::Outside;
     };
     if (byte >> (slot % 8)) % 2 == 1 {

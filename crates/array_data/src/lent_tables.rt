@@ -8,20 +8,14 @@ ghost use Rattle.array_data.specs.lent_tables.Lent.{tables, Counted, mask_of};
 pub fn at_u32(t: &[u32], i: usize) -> u32
     ensures { result ≡ get_or t.now i 0 }
 {
-    if i < t.len() {
-        return t[i];
-    }
-    0
+    t.get(i).copied().unwrap_or(0)
 }
 
 // Number i of a table; 0 past its end.
 pub fn at_u64(t: &[u64], i: usize) -> u64
     ensures { result ≡ get_or t.now i 0 }
 {
-    if i < t.len() {
-        return t[i];
-    }
-    0
+    t.get(i).copied().unwrap_or(0)
 }
 
 // Number j of the pair a + b of a table; 0 past its end.

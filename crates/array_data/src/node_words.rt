@@ -10,30 +10,20 @@ pub fn word(tree: &[u64], i: usize, j: usize) -> u64
     ensures { result ≡ word tree.now i j }
 {
     let at = 8 * i + j;
-    if at < tree.len() { tree[at] } else { 0 }
+    tree.get(at).copied().unwrap_or(0)
 }
 
-// The id of node i among the children that begin at node `from` and have the first k ids; 0 where it is none of them.
-fn id_among(
-    ids: &[u8],
-    k: usize,
-    schema: &[u32],
-    first: usize,
-    n: usize,
-    from: usize,
-    i: usize,
-) -> u64
-    requires { (k ≤ length ids.now) × (first < 4294967296) × (n < 4294967296) }
-    ensures { result ≡ id_from schema.now first n (take k ids.now) from i }
+// The id of node i among the children that begin at node `from` and have these ids; 0 where it is none of them.
+fn id_among(ids: &[u8], schema: &[u32], first: usize, n: usize, from: usize, i: usize) -> u64
+    requires { (first < 4294967296) × (n < 4294967296) }
+    ensures { result ≡ id_from schema.now first n ids.now from i }
 {
     let mut node = from;
-    let mut c = 0;
-    while c < k {
+    for id in ids {
         if node == i {
-            return ids[c] as u64;
+            return *id as u64;
         }
         node = schema::end_of(schema, first, n, node);
-        c += 1;
     }
     0
 }
@@ -46,10 +36,10 @@ fn id_under(formats: &[u8], schema: &[u32], first: usize, n: usize, p: usize, i:
     let at = schema::get(schema, first + p, 0) as usize;
     let len = schema::get(schema, first + p, 1) as usize;
     let mut ids = [0u8; 16];
-    let union_ids::Ids::Count(k) = union_ids::union_ids(formats, at, len, &mut ids) else {
+    let Some(k) = union_ids::union_ids(formats, at, len, &mut ids) else {
         return 0;
     };
-    id_among(&ids, k as usize, schema, first, n, p + 1, i)
+    id_among(&ids[..k as usize], schema, first, n, p + 1, i)
 }
 
 // The id that node i has as a child of the union it stands in.
@@ -57,9 +47,7 @@ fn child_id(formats: &[u8], schema: &[u32], first: usize, n: usize, i: usize) ->
     requires { (first < 4294967296) × (n < 4294967296) × (i < 4294967296) }
     ensures { result ≡ child_id formats.now schema.now first n i }
 {
-    let mut p = i;
-    while 0 < p {
-        p -= 1;
+    for p in (0..i).rev() {
         if i < schema::end_of(schema, first, n, p) {
             return id_under(formats, schema, first, n, p, i);
         }
@@ -102,9 +90,7 @@ pub fn plant(formats: &[u8], schema: &[u32], first: usize, n: usize, tree: &mut 
 {
     *tree = [0u64; 256];
     let m = words_of(n);
-    let mut q = 0;
-    while q < m {
+    for q in 0..m {
         tree[q] = word_of(formats, schema, first, n, q / 8, q % 8);
-        q += 1;
     }
 }

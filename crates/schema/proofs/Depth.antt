@@ -8,7 +8,7 @@ use lib.Dec.{ltb, eqb}
 use borrow.Author.Tests.{eqb-true, eqb-false, ltb-true, ltb-false, lt-ltb, le-ltb}
 use Rattle.schema.specs.Tree.{below, end_from, end_of, child_at, depth, whole}
 use Rattle.schema.proofs.Laws.{end_step}
-use Rattle.schema.proofs.Trees.{end_up, end_fit, end_split, end_one, split, child_is, child_inside}
+use Rattle.schema.proofs.Trees.{end_up, end_split, end_one, split, child_is, child_inside}
 use Rattle.schema.proofs.Counts.{count}
 
 -- ---- counting

@@ -1,9 +1,9 @@
 -- Laws of type trees. Assumes nothing.
 use mathlib.Core.Path.{◌≡◌, refl, ap, sym, ◌∙◌}
-use mathlib.Core.Bool.{Bool, true, false, not, cond, ◌&&◌, ◌||◌, and-false, and-true}
+use mathlib.Core.Bool.{Bool, true, false, ◌&&◌, ◌||◌, and-false, and-true}
 use mathlib.Core.List.{List}
 use mathlib.Core.Option.{Option, none, some}
-use Prim.Native.Nat.{ℕ, zero, suc, ◌+◌, ◌*◌, ◌-◌, ◌≤◌, ◌<◌}
+use Prim.Native.Nat.{ℕ, zero, suc, ◌+◌, ◌-◌, ◌≤◌, ◌<◌}
 use native.Mathlib.Omega.{arith}
 use native.Mathlib.Numerals.{add-one}
 use lib.ListN.{length}
@@ -11,8 +11,8 @@ use lib.Dec.{leb, ltb, eqb}
 use borrow.Author.Tests.{lt-ltb, le-ltb, le-leb, lt-leb, eq-eqb, ne_eqb, eqb-true, eqb-false}
 use Rattle.schema.specs.Tree.{field, flag, children, dictionary, below, end_from, child_for_each, is_values, end_of, depth, whole, code_of, ids_of, few_fields, shape, ceilings, typed, same_flag, same_formats, same_node, same_type}
 use Rattle.schema.specs.union_ids.Ids.{ids_at, answer_of, same_format}
-use Rattle.schema.specs.declared.union_ids.Ids.{Ids}
-use Rattle.schema.specs.declared.union_ids.Ids.TheVariants.{Count, Bad}
+use Rattle.std.specs.Prelude.{Some, None}
+use Rattle.std.specs.declared.option.Option as answer
 use Rattle.columnar.specs.Test.{every}
 use Rattle.schema.proofs.Counts.{count}
 use Rattle.schema.proofs.Due.{due_from, whole_is}
@@ -130,30 +130,30 @@ module _ (formats schema : List ℕ) (first n : ℕ) where
 
 -- ---- the types that are admitted
 
-never : (k : ℕ) → Count k ≡ Bad → ⊥
+never : (k : ℕ) → Some k ≡ None → ⊥
 never k e = let z : ◌≡◌ {A = ℕ} 0 1 = cc in omega arith
 
-counted : (j k : ℕ) → Count j ≡ Count k → j ≡ k
+counted : (j k : ℕ) → Some j ≡ Some k → j ≡ k
 counted j k e = cc
 
 module _ (schema : List ℕ) (first i : ℕ) where
-  none_by : (o : Option (List ℕ)) → answer_of o ≡ Bad → child_for_each schema first o i ≡ false
+  none_by : (o : Option (List ℕ)) → answer_of o ≡ None → child_for_each schema first o i ≡ false
   none_by none e = refl
   none_by (some ids) e = absurd (never (length ids) e)
 
-  each_by : (o : Option (List ℕ)) (k n : ℕ) → answer_of o ≡ Count k → n ≡ children schema first i → child_for_each schema first o i ≡ eqb k n
+  each_by : (o : Option (List ℕ)) (k n : ℕ) → answer_of o ≡ Some k → n ≡ children schema first i → child_for_each schema first o i ≡ eqb k n
   each_by none k n e q = absurd (never k (sym e))
   each_by (some ids) k n e q = rw (counted _ _ e, q)
 
-  module _ (formats : List ℕ) (at len : ℕ) (r : Ids) (a : at ≡ field schema (first + i) 0) (l : len ≡ field schema (first + i) 1) (e : r ≡ answer_of (ids_at formats at len)) where
+  module _ (formats : List ℕ) (at len : ℕ) (r : answer.Option ℕ) (a : at ≡ field schema (first + i) 0) (l : len ≡ field schema (first + i) 1) (e : r ≡ answer_of (ids_at formats at len)) where
     same_ids_lem : ids_of formats schema first i ≡ ids_at formats at len
     unfolding ids_of
     same_ids_lem = ap (λ x. ids_at formats x (field schema (first + i) 1)) (sym a) ∙ ap (ids_at formats at) (sym l)
 
-    pub no_ids : r ≡ Bad → child_for_each schema first (ids_of formats schema first i) i ≡ false
+    pub no_ids : r ≡ None → child_for_each schema first (ids_of formats schema first i) i ≡ false
     no_ids h = none_by (ids_of formats schema first i) (ap answer_of same_ids_lem ∙ sym e ∙ h)
 
-    pub counts : (k n : ℕ) → r ≡ Count k → n ≡ children schema first i → child_for_each schema first (ids_of formats schema first i) i ≡ eqb k n
+    pub counts : (k n : ℕ) → r ≡ Some k → n ≡ children schema first i → child_for_each schema first (ids_of formats schema first i) i ≡ eqb k n
     counts k n h q = each_by (ids_of formats schema first i) k n (ap answer_of same_ids_lem ∙ sym e ∙ h) q
 
 module _ (formats schema : List ℕ) (first n : ℕ) where

@@ -1,6 +1,6 @@
 -- Lent type trees (docs/FORMAT.md): the nodes of a source in depth-first order, five numbers a node, and the formats that they name.
 -- Grounds 9, 10 and 11 of 01 as far as they are about types. Assumes nothing.
-use Rattle.std.specs.Prelude.{Bool, true, false, not, cond, ◌&&◌, ◌||◌, List, [], ℕ, zero, suc, ◌+◌, ◌*◌, ◌-◌, ◌/◌, ◌%◌, length, get_or, leb, ltb, eqb}
+use Rattle.std.specs.Prelude.{Bool, false, not, cond, ◌&&◌, ◌||◌, List, ℕ, zero, suc, ◌+◌, ◌*◌, ◌-◌, ◌/◌, ◌%◌, length, get_or, leb, ltb, eqb}
 use Rattle.std.proofs.Math.Option.{Option, none, some}
 use Rattle.columnar.specs.Row.{sum}
 use Rattle.columnar.specs.Test.{every}

@@ -90,15 +90,13 @@ pub fn end_of(schema: &[u32], first: usize, n: usize, i: usize) -> usize
     ensures { result ≡ end_of schema.now first n i }
 {
     let mut due: u64 = 1;
-    let mut k = i;
-    while k < n {
+    for k in i..n {
         if due == 0 {
             return k;
         }
         due = due - 1 + below_of(schema, first, k);
-        k += 1;
     }
-    k
+    i.max(n)
 }
 
 // Whether the n nodes are one whole tree.
@@ -110,13 +108,11 @@ pub fn is_whole(schema: &[u32], first: usize, n: usize) -> bool
         return false;
     }
     let mut due: u64 = 1;
-    let mut k = 0;
-    while k < n {
+    for k in 0..n {
         if due == 0 {
             return false;
         }
         due = due - 1 + below_of(schema, first, k);
-        k += 1;
     }
     due == 0
 }
@@ -129,12 +125,10 @@ pub fn depth_of(schema: &[u32], first: usize, n: usize, i: usize) -> usize
     ensures { result ≡ depth schema.now first n i }
 {
     let mut d: usize = 1;
-    let mut j = 0;
-    while j < i {
+    for j in 0..i {
         if i < end_of(schema, first, n, j) {
             d += 1;
         }
-        j += 1;
     }
     d
 }
@@ -169,15 +163,13 @@ pub fn is_within_ceilings(formats: &[u8], schema: &[u32], first: usize, n: usize
     if 32 < n {
         return false;
     }
-    let mut i = 0;
-    while i < n {
+    for i in 0..n {
         if !has_few_fields(formats, schema, first, i) {
             return false;
         }
         if !is_shallow(schema, first, n, i) {
             return false;
         }
-        i += 1;
     }
     true
 }
@@ -247,7 +239,7 @@ fn has_child_for_each(formats: &[u8], schema: &[u32], first: usize, i: usize) ->
     let len = get(schema, first + i, 1) as usize;
     let n = children_of(schema, first, i);
     let mut ids = [0u8; 16];
-    let union_ids::Ids::Count(k) = union_ids::union_ids(formats, at, len, &mut ids) else {
+    let Some(k) = union_ids::union_ids(formats, at, len, &mut ids) else {
         return false;
     };
     k as u32 == n
@@ -308,12 +300,10 @@ pub fn is_typed(formats: &[u8], schema: &[u32], first: usize, n: usize) -> bool
     if !is_whole(schema, first, n) {
         return false;
     }
-    let mut i = 0;
-    while i < n {
+    for i in 0..n {
         if !is_shaped(formats, schema, first, i) {
             return false;
         }
-        i += 1;
     }
     true
 }
@@ -370,12 +360,10 @@ pub fn same_type(
     if n != n2 {
         return false;
     }
-    let mut node = 0;
-    while node < n {
+    for node in 0..n {
         if !is_same_node(formats, schema, first, first2, node) {
             return false;
         }
-        node += 1;
     }
     true
 }

@@ -1,42 +1,39 @@
 -- The words of a type tree as they are found. Assumes nothing.
-use mathlib.Core.Path.{◌≡◌, refl, ap, sym, subst, ◌∙◌}
-use mathlib.Core.Bool.{Bool, true, false, cond}
+use mathlib.Core.Path.{◌≡◌, refl, ap, sym, ◌∙◌}
+use mathlib.Core.Bool.{Bool, true, false}
 use mathlib.Core.List.{List, [], ◌∷◌, ◌++◌}
 use mathlib.Core.Option.{Option, none, some}
-use Prim.Native.Nat.{ℕ, zero, suc, ◌+◌, ◌*◌, ◌-◌, ◌/◌, ◌%◌, ◌≤◌, ◌<◌}
+use Prim.Native.Nat.{ℕ, zero, suc, ◌+◌, ◌/◌, ◌%◌, ◌≤◌, ◌<◌}
 use native.Mathlib.Omega.{arith}
 use native.Mathlib.Numerals.{add-one}
-use lib.ListN.{length, take, drop, get_or, set, replicate, length-take, length-set, drop_of_length-le, get_or-eq_default}
-use lib.Seq.{drop-cons, take_at, take-suc-set, get_or-take, length-take-le, ext_get_or}
-use lib.Dec.{ltb, eqb}
+use lib.ListN.{length, take, drop, get_or, set, replicate, drop_of_length-le, get_or-eq_default}
+use lib.Seq.{drop-cons, take_at, take-suc-set, get_or-take, ext_get_or}
+use lib.Dec.{ltb}
 use borrow.Author.Tests.{lt-ltb, le-ltb, eq-eqb, ne_eqb, ltb-true, ltb-false}
 use Rattle.columnar.specs.Row.{seg}
 use Rattle.schema.specs.Tree.{field, flag, dictionary, end_of, code_of, ids_of}
 use Rattle.schema.specs.union_ids.Ids.{ids_at, answer_of, written}
-use Rattle.schema.specs.declared.union_ids.Ids.{Ids}
-use Rattle.schema.specs.declared.union_ids.Ids.TheVariants.{Count, Bad}
+use Rattle.std.specs.Prelude.{Some, None}
+use Rattle.std.specs.declared.option.Option as answer
+use Rattle.std.proofs.lemmas.Option.{same_Some}
 use Rattle.array_data.specs.node_words.Words.{id_from, id_below, word_of, planted, id_under, child_id}
 use Rattle.array_data.proofs.Names.{ids_or, words_of}
 
 -- ---- ids among children
 
-module _ (schema : List ℕ) (first n : ℕ) (ids : List ℕ) (k : ℕ) (h : k ≤ length ids) where
-  next_id : (c : ℕ) → c < k → drop c (take k ids) ≡ get_or ids c 0 ∷ drop (suc c) (take k ids)
-  next_id c l =
-      drop-cons (take k ids) c 0 (simp length-take (omega arith)) ∙ ap (λ d. d ∷ drop (suc c) (take k ids)) (get_or-take k ids c 0 l)
-
-  pub among_here : (c node i : ℕ) → c < k → node ≡ i → id_from schema first n (drop c (take k ids)) node i ≡ get_or ids c 0
+module _ (schema : List ℕ) (first n : ℕ) (ids : List ℕ) where
+  pub among_here : (c node i : ℕ) → c < length ids → node ≡ i → id_from schema first n (drop c ids) node i ≡ get_or ids c 0
   unfolding id_from
-  among_here c node i l e = rw (next_id c l, eq-eqb node i e)
+  among_here c node i l e = rw (drop-cons ids c 0 l, eq-eqb node i e)
 
-  pub among_next : (c node i : ℕ) → c < k → (node ≡ i → ⊥)
-      → id_from schema first n (drop c (take k ids)) node i ≡ id_from schema first n (drop (c + 1) (take k ids)) (end_of schema first n node) i
+  pub among_next : (c node i : ℕ) → c < length ids → (node ≡ i → ⊥)
+      → id_from schema first n (drop c ids) node i ≡ id_from schema first n (drop (c + 1) ids) (end_of schema first n node) i
   unfolding id_from
-  among_next c node i l e = rw (next_id c l, ne_eqb node i e, add-one c)
+  among_next c node i l e = rw (drop-cons ids c 0 l, ne_eqb node i e, add-one c)
 
-  pub among_end : (c node i : ℕ) → k ≤ c → id_from schema first n (drop c (take k ids)) node i ≡ 0
+  pub among_end : (c node i : ℕ) → length ids ≤ c → id_from schema first n (drop c ids) node i ≡ 0
   unfolding id_from
-  among_end c node i l = (let e : length (take k ids) ≤ c = simp length-take (omega arith) in rw (drop_of_length-le (take k ids) e))
+  among_end c node i l = rw (drop_of_length-le ids l)
 
 -- ---- the ids of a node's format
 
@@ -45,22 +42,19 @@ module _ (formats schema : List ℕ) (first n p i at len : ℕ) (is_at : at ≡ 
   unfolding ids_of
   ids_are = rw (is_at, is-len)
 
-  no_id_by : (o : Option (List ℕ)) → answer_of o ≡ Bad → id_from schema first n (ids_or o) (suc p) i ≡ 0
+  no_id_by : (o : Option (List ℕ)) → answer_of o ≡ None → id_from schema first n (ids_or o) (suc p) i ≡ 0
   unfolding id_from
   no_id_by none e = refl
-  no_id_by (some ids) e = let z : ◌≡◌ {A = ℕ} 0 1 = cc in absurd (omega arith)
+  no_id_by (some ids) e = absurd (cc)
 
-  pub no_id : (r : Ids) → r ≡ answer_of (ids_at formats at len) → r ≡ Bad → id_under formats schema first n p i ≡ 0
+  pub no_id : (r : answer.Option ℕ) → r ≡ answer_of (ids_at formats at len) → r ≡ None → id_under formats schema first n p i ≡ 0
   no_id r e b = rw ids_are (no_id_by (ids_at formats at len) (sym e ∙ b))
 
-  count_is : {a b : ℕ} → Count a ≡ Count b → a ≡ b
-  count_is e = cc
+  front_by : (o : Option (List ℕ)) (k : ℕ) (s : List ℕ) → answer_of o ≡ Some k → take k (written o s) ≡ ids_or o
+  front_by none k s e = absurd (cc)
+  front_by (some ids) k s e = take_at ids (drop (length ids) s) k (same_Some _ _ e)
 
-  front_by : (o : Option (List ℕ)) (k : ℕ) (s : List ℕ) → answer_of o ≡ Count k → take k (written o s) ≡ ids_or o
-  front_by none k s e = let z : ◌≡◌ {A = ℕ} 0 1 = cc in absurd (omega arith)
-  front_by (some ids) k s e = take_at ids (drop (length ids) s) k (count_is e)
-
-  pub under : (r : Ids) (k : ℕ) (s ids : List ℕ) → r ≡ answer_of (ids_at formats at len) → r ≡ Count k → ids ≡ written (ids_at formats at len) s
+  pub under : (r : answer.Option ℕ) (k : ℕ) (s ids : List ℕ) → r ≡ answer_of (ids_at formats at len) → r ≡ Some k → ids ≡ written (ids_at formats at len) s
       → id_from schema first n (take k ids) (p + 1) i ≡ id_under formats schema first n p i
   under r k s ids e c w = rw (ids_are, w, front_by (ids_at formats at len) k s (sym e ∙ c), add-one p)
 

@@ -19,7 +19,6 @@ use Rattle.array_data.specs.Typed.{Tree, child_node, field_of, MeansPlain, Means
 use Rattle.array_data.specs.type_tree.Lent.{tree_of, ty_of, type_of}
 use Rattle.array_data.proofs.type_tree.Ids.{both, field_in_lem}
 use Rattle.array_data.proofs.type_tree.Shaped.{plain_kind, Shaped, of_plain_lem, of_view, of_list, of_lists_lem, of_sparse, of_dense, of_run_lem, of_dictionary, shaped}
-use Rattle.schema.proofs.Counts.{count}
 
 -- ---- a tree that passes
 

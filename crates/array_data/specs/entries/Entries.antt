@@ -1,13 +1,10 @@
 -- Entries of lent buffers that may be of any length, and a column's tables from its first node on. Assumes nothing.
-use Rattle.std.specs.Prelude.{Bool, cond, ◌&&◌, ◌||◌, List, ℕ, suc, ◌+◌, ◌*◌, ◌/◌, length, leb, ltb, eqb}
+use Rattle.std.specs.Prelude.{Some, None, Bool, cond, ◌&&◌, ◌||◌, List, ℕ, suc, ◌+◌, ◌*◌, ◌/◌, length, leb, ltb, eqb}
 use Rattle.std.proofs.Math.Option.{Option, none, some}
 use Rattle.columnar.specs.Array.{item, bit}
 use Rattle.array_data.specs.Tables.{Tables}
 use Rattle.array_data.specs.Typed.{tables_from}
-use Rattle.array_data.specs.declared.entries.Spot.{Spot}
-use Rattle.array_data.specs.declared.entries.Spot.TheVariants as spot
-use Rattle.array_data.specs.declared.entries.Entry.{Entry}
-use Rattle.array_data.specs.declared.entries.Entry.TheVariants as entry
+use Rattle.std.specs.declared.option.Option as answer
 use Rattle.array_data.specs.declared.entries.Validity.{Validity}
 use Rattle.array_data.specs.declared.entries.Validity.TheVariants as validity
 
@@ -19,17 +16,17 @@ column lengths places buffers body first = tables_from (record { lengths = lengt
 abbrev pub holds : ℕ → List ℕ → ℕ → Bool
 holds w s i = leb 1 w && leb (suc i * w) (length s)
 
--- where entry i stands in the body, of a buffer that begins at `start`
-unfoldable pub spot_in : ℕ → ℕ → List ℕ → ℕ → Spot
-spot_in start w s i = cond (holds w s i) (spot.At (start + i * w)) spot.Outside
+-- where entry i stands in the body, of a buffer that begins at `start`; none where the buffer does not hold it
+unfoldable pub spot_in : ℕ → ℕ → List ℕ → ℕ → answer.Option ℕ
+spot_in start w s i = cond (holds w s i) (Some (start + i * w)) None
 
 -- numbers have 1, 2, 4 or 8 bytes
 abbrev pub sized : ℕ → Bool
 sized w = eqb w 1 || (eqb w 2 || (eqb w 4 || eqb w 8))
 
--- the number in entry i
-unfoldable pub entry_in : ℕ → List ℕ → ℕ → Entry
-entry_in w s i = cond (sized w && holds w s i) (entry.Value (item w s i)) entry.Outside
+-- the number in entry i; none where the buffer does not hold it
+unfoldable pub entry_in : ℕ → List ℕ → ℕ → answer.Option ℕ
+entry_in w s i = cond (sized w && holds w s i) (Some (item w s i)) None
 
 -- a slot's bit, valid or not
 abbrev pub valid_bit : Bool → Validity

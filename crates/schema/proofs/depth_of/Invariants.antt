@@ -1,4 +1,4 @@
-use Prim.Native.Nat.{suc, ◌+◌, ◌-◌, ◌≤◌}
+use Prim.Native.Nat.{suc, ◌+◌, ◌≤◌}
 use mathlib.Core.Path.{◌≡◌}
 use lib.Dec.{ltb}
 use Rattle.schema.specs.Tree.{end_of}
@@ -6,7 +6,4 @@ use Rattle.schema.proofs.Counts.{count}
 use Rattle.schema.proofs.depth_of.Given as goal
 
 abbrev pub invariant-loop-j : goal.invariant-loop-j
-invariant-loop-j l = (l.j ≤ l.i) × (l.d ≤ 1 + l.j) × (l.d ≡ suc (count (λ k. ltb l.i (end_of l.schema l.first l.n k)) l.j))
-
-abbrev pub decreases-loop-j : goal.decreases-loop-j
-decreases-loop-j l = l.i - l.j
+invariant-loop-j l = (l.d ≤ 1 + l.j) × (l.d ≡ suc (count (λ k. ltb l.i (end_of l.schema l.first l.n k)) l.j))

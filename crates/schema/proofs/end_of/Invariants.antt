@@ -4,7 +4,4 @@ use Rattle.schema.specs.Tree.{end_from}
 use Rattle.schema.proofs.end_of.Given as goal
 
 abbrev pub invariant-loop-k : goal.invariant-loop-k
-invariant-loop-k l = (l.i ≤ l.k) × (l.due ≤ 1 + 4294967296 * (l.k - l.i)) × (end_from l.schema l.first (l.n - l.k) l.due l.k ≡ end_from l.schema l.first (l.n - l.i) 1 l.i)
-
-abbrev pub decreases-loop-k : goal.decreases-loop-k
-decreases-loop-k l = l.n - l.k
+invariant-loop-k l = (l.due ≤ 1 + 4294967296 * (l.k - l.i)) × (end_from l.schema l.first (l.n - l.k) l.due l.k ≡ end_from l.schema l.first (l.n - l.i) 1 l.i) × (l.n ≤ l.i → l.k ≡ l.i)

@@ -11,4 +11,4 @@ returns-in_default c =
 pub returns : goal.returns
 returns c =
     let z = c.args in
-    sym (counts z.schema.now z.first z.i z.formats.now _ _ _ c.get-at.ensures c.get-len.ensures c.union_ids.ensures.value _ _ c.in-Count.is c.children_of-n.ensures)
+    sym (counts z.schema.now z.first z.i z.formats.now _ _ _ c.get-at.ensures c.get-len.ensures c.union_ids.ensures.value _ _ c.in-Some.is c.children_of-n.ensures)

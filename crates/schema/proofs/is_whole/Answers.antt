@@ -14,28 +14,13 @@ returns-then-n-eq0 c =
 pub loop-k-init : goal.loop-k-init
 loop-k-init c =
     let e : c.args.n - 0 ≡ c.args.n = omega arith in
-    (omega arith, omega arith, rw e, rw e)
+    (omega arith, rw e, rw e)
 
 pub returns-then-due-eq0 : goal.returns-then-due-eq0
 returns-then-due-eq0 c =
     let z = c.args in
     let l = c.loop-k in
-    sym (not_early z.schema.now z.first z.n l.due l.k (omega arith) c.if-due-eq0.true l.invariant.2)
-
-pub overflow_sub-due : goal.overflow_sub-due
-overflow_sub-due c = omega arith
-
-pub below_of-requires : goal.below_of-requires
-below_of-requires c = omega arith
-
-pub overflow_add-due : goal.overflow_add-due
-overflow_add-due c = omega arith
-
-pub overflow_add-k : goal.overflow_add-k
-overflow_add-k c = omega arith
-
-pub loop-k-smaller : goal.loop-k-smaller
-loop-k-smaller c = omega arith
+    sym (not_early z.schema.now z.first z.n l.due l.k (omega arith) c.if-due-eq0.true l.invariant.1)
 
 pub loop-k-preserved : goal.loop-k-preserved
 loop-k-preserved c =
@@ -43,13 +28,12 @@ loop-k-preserved c =
     let l = c.loop-k in
     let b : below z.schema.now z.first l.k ≡ c.below_of.result = sym c.below_of.ensures.value in (
       omega arith,
-      omega arith,
-      sym (rw b at (end_step z.schema.now z.first z.n l.due l.k (omega arith) c.if-due-eq0.false)) ∙ l.invariant.2,
-      sym (rw b at (due_step z.schema.now z.first z.n l.due l.k (omega arith) c.if-due-eq0.false)) ∙ l.invariant.3,
+      sym (rw b at (end_step z.schema.now z.first z.n l.due l.k (omega arith) c.if-due-eq0.false)) ∙ l.invariant.1,
+      sym (rw b at (due_step z.schema.now z.first z.n l.due l.k (omega arith) c.if-due-eq0.false)) ∙ l.invariant.2,
     )
 
 pub returns : goal.returns
 returns c =
     let z = c.args in
     let l = c.loop-k in
-    sym (by_due z.schema.now z.first z.n l.due l.k (omega arith) c.if-n-eq0.false l.invariant.2 l.invariant.3)
+    sym (by_due z.schema.now z.first z.n l.due l.k (omega arith) c.if-n-eq0.false l.invariant.1 l.invariant.2)

@@ -5,7 +5,4 @@ use Rattle.schema.proofs.Due.{due_from}
 use Rattle.schema.proofs.is_whole.Given as goal
 
 abbrev pub invariant-loop-k : goal.invariant-loop-k
-invariant-loop-k l = (l.k ≤ l.n) × (l.due ≤ 1 + 4294967296 * l.k) × (end_from l.schema l.first (l.n - l.k) l.due l.k ≡ end_from l.schema l.first l.n 1 0) × (due_from l.schema l.first (l.n - l.k) l.due l.k ≡ due_from l.schema l.first l.n 1 0)
-
-abbrev pub decreases-loop-k : goal.decreases-loop-k
-decreases-loop-k l = l.n - l.k
+invariant-loop-k l = (l.due ≤ 1 + 4294967296 * l.k) × (end_from l.schema l.first (l.n - l.k) l.due l.k ≡ end_from l.schema l.first l.n 1 0) × (due_from l.schema l.first (l.n - l.k) l.due l.k ≡ due_from l.schema l.first l.n 1 0)

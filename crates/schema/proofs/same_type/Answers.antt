@@ -1,7 +1,5 @@
 -- `schema::same_type` meets its contract. The invariant: the nodes below `node` are the same. Assumes nothing.
-use Prim.Native.Nat.{◌-◌}
 use mathlib.Core.Path.{sym, ◌∙◌}
-use mathlib.Core.Bool.{true}
 use native.Mathlib.Omega.{arith}
 use borrow.Author.Count.{below_more}
 use borrow.Author.Tests.{not-true, not-false}
@@ -14,26 +12,17 @@ returns-then-n-n2 c =
     sym (sizes_differ z.formats.now z.schema.now z.first z.n z.first2 z.n2 c.if-n-n2.true)
 
 pub loop-node-init : goal.loop-node-init
-loop-node-init c = (omega arith, λ j h. absurd (omega arith))
-
-pub is_same_node-requires : goal.is_same_node-requires
-is_same_node-requires c = omega arith
+loop-node-init c = λ j h. absurd (omega arith)
 
 pub returns-then-not-is_same_node : goal.returns-then-not-is_same_node
 returns-then-not-is_same_node c =
     let z = c.args in
     sym (nodes_differ z.formats.now z.schema.now z.first z.n z.first2 z.n2 c.loop-node.node (omega arith) (sym c.is_same_node.ensures ∙ not-true _ c.if-not-is_same_node.true-raw))
 
-pub overflow_add-node : goal.overflow_add-node
-overflow_add-node c = omega arith
-
-pub loop-node-smaller : goal.loop-node-smaller
-loop-node-smaller c = omega arith
-
 pub loop-node-preserved : goal.loop-node-preserved
-loop-node-preserved c = (omega arith, below_more _ _ c.loop-node.invariant.1 (sym c.is_same_node.ensures ∙ not-false _ c.if-not-is_same_node.false-raw))
+loop-node-preserved c = (below_more _ _ c.loop-node.invariant (sym c.is_same_node.ensures ∙ not-false _ c.if-not-is_same_node.false-raw))
 
 pub returns : goal.returns
 returns c =
     let z = c.args in
-    sym (all_same_lem z.formats.now z.schema.now z.first z.n z.first2 z.n2 c.if-n-n2.false (λ j h. c.loop-node.invariant.1 j (omega arith)))
+    sym (all_same_lem z.formats.now z.schema.now z.first z.n z.first2 z.n2 c.if-n-n2.false (λ j h. c.loop-node.invariant j (omega arith)))

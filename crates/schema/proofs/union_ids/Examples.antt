@@ -4,8 +4,6 @@ use mathlib.Core.List.{[], ◌∷◌}
 use mathlib.Core.Option.{none, some}
 use Rattle.schema.specs.formats.Code.{code_of}
 use Rattle.schema.specs.union_ids.Ids.{pieces, decimal, id_of, distinct, allowed, ids_of}
-use Rattle.columnar.specs.Test.{member}
-use Rattle.schema.proofs.union_ids.Laws.{small}
 
 -- K12: +ud:5,7
 pub k12 : ids_of (43 ∷ 117 ∷ 100 ∷ 58 ∷ 53 ∷ 44 ∷ 55 ∷ []) ≡ some (5 ∷ 7 ∷ [])

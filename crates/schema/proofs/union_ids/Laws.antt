@@ -5,30 +5,20 @@ use mathlib.Core.List.{List, [], ◌∷◌, ◌++◌}
 use mathlib.Core.Option.{none, some}
 use Prim.Native.Nat.{ℕ, zero, suc, ◌+◌, ◌*◌, ◌-◌, ◌≤◌, ◌<◌}
 use native.Mathlib.Omega.{arith}
-use native.Mathlib.Nat.{add-zero}
 use native.Mathlib.Numerals.{add-one}
-use lib.ListN.{length, take, drop, get_or, length-take, length-drop, drop_of_length-le}
-use lib.Seq.{drop-cons, get_or-take, get_or-drop}
-use lib.Dec.{leb, eqb}
-use borrow.Author.Tests.{le-leb, lt-leb, eq-eqb, ne_eqb, eqb-true, eqb-false, leb-true, not-true}
+use lib.ListN.{length, take, drop, get_or, drop_of_length-le}
+use lib.Seq.{drop-cons}
+use lib.Dec.{leb, ltb, eqb}
+use borrow.Author.Tests.{ltb-false, le-leb, lt-leb, eq-eqb, ne_eqb, eqb-true, eqb-false, leb-true, not-true}
+use Rattle.std.specs.Prelude.{Some, None}
+use Rattle.std.specs.Option.{unwrap_or}
+use Rattle.std.specs.List.{list_any, position_or_len}
+use Rattle.std.specs.Cmp.Lexicographic.{pointwise}
 use Rattle.schema.specs.formats.Code.{between}
 use Rattle.schema.specs.union_ids.Ids.{before, pieces, first_comma, decimal, id_of, distinct, allowed}
-use Rattle.schema.proofs.formats.Laws.{text_1, text_2, text_3}
 use Rattle.columnar.specs.Test.{each, member, same}
 
 -- ---- commas
-
-pub comma_here : (t : List ℕ) (i : ℕ) → i < length t → get_or t i 0 ≡ 44 → first_comma (drop i t) ≡ 0
-unfolding first_comma
-comma_here t i lt h = rw (drop-cons t i 0 lt, eq-eqb (get_or t i 0) 44 h)
-
-pub comma_past : (t : List ℕ) (i : ℕ) → i < length t → (get_or t i 0 ≡ 44 → ⊥) → first_comma (drop i t) ≡ suc (first_comma (drop (i + 1) t))
-unfolding first_comma
-comma_past t i lt h = rw (add-one, drop-cons t i 0 lt, ne_eqb (get_or t i 0) 44 h)
-
-pub comma_end : (t : List ℕ) (i : ℕ) → length t ≤ i → first_comma (drop i t) ≡ 0
-unfolding first_comma
-comma_end t i h = rw (drop_of_length-le t h)
 
 comma_le_by : (x : Bool) (n m : ℕ) → n ≤ m → cond x 0 (suc n) ≤ suc m
 comma_le_by true n m h = omega arith
@@ -38,6 +28,23 @@ pub comma_le : (s : List ℕ) → first_comma s ≤ length s
 unfolding first_comma
 comma_le [] = omega arith
 comma_le (b ∷ s) = comma_le_by (eqb b 44) _ _ (comma_le s)
+
+place_by : (x : Bool) (m n : ℕ) → m ≡ n → cond (not x) (1 + m) 0 ≡ cond x 0 (suc n)
+place_by true m n e = refl
+place_by false m n e = omega arith
+
+place : (s : List ℕ) → position_or_len (λ b. eqb b 44) s ≡ first_comma s
+unfolding first_comma
+place [] = refl
+place (b ∷ s) = place_by (eqb b 44) _ _ (place s)
+
+found_by : (n m : ℕ) (x : Bool) → ltb n m ≡ x → n ≤ m → unwrap_or (cond x (Some n) None) m ≡ n
+found_by n m true e h = refl
+found_by n m false e h = omega (arith, ltb-false n m e)
+
+-- the first comma, or the length, is what `position` finds
+pub found : (s : List ℕ) → unwrap_or (cond (ltb (position_or_len (λ b. eqb b 44) s) (length s)) (Some (position_or_len (λ b. eqb b 44) s)) None) (length s) ≡ first_comma s
+found s = found_by _ _ _ refl (omega (arith, place s, comma_le s)) ∙ place s
 
 pieces_comma_by : (b : ℕ) (s : List ℕ) (x : Bool)
     → (first_comma s < length s → pieces s ≡ take (first_comma s) s ∷ pieces (drop (suc (first_comma s)) s))
@@ -63,105 +70,65 @@ pieces_last (b ∷ s) h = pieces_last_by b s (eqb b 44) (pieces_last s) h
 
 -- ---- the number of a piece
 
-pub no_digit_1 : (a b c : ℕ) → between 48 57 a ≡ false → id_of (a ∷ b ∷ c ∷ []) ≡ 128
-unfolding id_of
-no_digit_1 a b c h = rw h
+no_digit : (s : List ℕ) (k : ℕ) → k < length s → between 48 57 (get_or s k 0) ≡ false → each (between 48 57) s ≡ false
+no_digit [] k h e = absurd (omega arith)
+no_digit (b ∷ s) zero h e = rw e
+no_digit (b ∷ s) (suc k) h e = rw (no_digit s k (omega arith) e, and-false)
 
-pub no_digit_2 : (a b c : ℕ) → between 48 57 b ≡ false → id_of (a ∷ b ∷ c ∷ []) ≡ 128
+pub no_id : (s : List ℕ) (k : ℕ) → k < length s → between 48 57 (get_or s k 0) ≡ false → id_of s ≡ 128
 unfolding id_of
-no_digit_2 a b c h = simp (h, and-false)
+no_id s k h e = rw (no_digit s k h e, and-false)
 
-pub no_digit_3 : (a b c : ℕ) → between 48 57 c ≡ false → id_of (a ∷ b ∷ c ∷ []) ≡ 128
+pub no_piece : (s : List ℕ) → length s ≡ 0 → id_of s ≡ 128
 unfolding id_of
-no_digit_3 a b c h = simp (h, and-false)
+no_piece s e = rw e
+
+pub long_piece : (s : List ℕ) → 3 < length s → id_of s ≡ 128
+unfolding id_of
+long_piece s h = rw (lt-leb (length s) 3 h, and-false)
+
+digits : (s : List ℕ) → ((k : ℕ) → k < length s → between 48 57 (get_or s k 0) ≡ true) → each (between 48 57) s ≡ true
+digits [] h = refl
+digits (b ∷ s) h = rw (h 0 (omega arith), digits s (λ k lt. h (suc k) (omega arith)))
+
+pub an_id : (s : List ℕ) → 1 ≤ length s → length s ≤ 3 → ((k : ℕ) → k < length s → between 48 57 (get_or s k 0) ≡ true) → id_of s ≡ decimal 0 s
+unfolding id_of
+an_id s a b h = rw (le-leb 1 (length s) a, le-leb (length s) 3 b, digits s h)
+
+pub decimal_step : (s : List ℕ) (x k : ℕ) → k < length s → decimal x (drop k s) ≡ decimal (10 * x + (get_or s k 0 - 48)) (drop (k + 1) s)
+unfolding decimal
+decimal_step s x k h = rw (add-one, drop-cons s k 0 h)
+
+pub decimal_end : (s : List ℕ) (x k : ℕ) → length s ≤ k → decimal x (drop k s) ≡ x
+unfolding decimal
+decimal_end s x k h = rw (drop_of_length-le s h)
 
 pub is_digit : (a : ℕ) → between 48 57 a ≡ true → (48 ≤ a) × (a ≤ 57)
 is_digit a h =
     let e = (and-eq-true_iff (leb 48 a) (leb a 57)).0 h in
     (leb-true _ _ e.0, leb-true _ _ e.1)
 
-pub three : (a b c : ℕ) → between 48 57 a ≡ true → between 48 57 b ≡ true → between 48 57 c ≡ true
-    → id_of (a ∷ b ∷ c ∷ []) ≡ 10 * (10 * (a - 48) + (b - 48)) + (c - 48)
-unfolding id_of decimal
-three a b c p q r =
-    let e : decimal 0 (a ∷ b ∷ c ∷ []) ≡ 10 * (10 * (a - 48) + (b - 48)) + (c - 48) = omega arith in
-    simp (p, q, r) e
+-- ---- members, and lists compared
 
-slice_at : (t : List ℕ) (p n i : ℕ) → i < n → get_or (take n (drop p t)) i 0 ≡ get_or t (p + i) 0
-slice_at t p n i h = get_or-take n (drop p t) i 0 h ∙ get_or-drop p t i 0
+swap_by : (x y : ℕ) (t : Bool) → eqb x y ≡ t → eqb y x ≡ t
+swap_by x y true e = eq-eqb y x (sym (eqb-true x y e))
+swap_by x y false e = ne_eqb y x (λ q. eqb-false x y e (sym q))
 
-slice_first : (t : List ℕ) (p n : ℕ) → 0 < n → get_or (take n (drop p t)) 0 0 ≡ get_or t p 0
-slice_first t p n h = slice_at t p n 0 h ∙ ap (λ i. get_or t i 0) (add-zero p)
+pub is_member : (x : ℕ) (l : List ℕ) → list_any (λ y. eqb y x) l ≡ member x l
+is_member x [] = refl
+is_member x (y ∷ l) = rw (swap_by x y (eqb x y) refl, is_member x l)
 
-slice_length : (t : List ℕ) (p e : ℕ) → p ≤ e → e ≤ length t → length (take (e - p) (drop p t)) ≡ e - p
-slice_length t p e le h = simp (length-take, length-drop) (omega arith)
+is_same_by : (a b : Bool) → (a && b) ≡ (b && a)
+is_same_by true true = refl
+is_same_by true false = refl
+is_same_by false true = refl
+is_same_by false false = refl
 
-one_digit : (x : ℕ) → id_of (x ∷ []) ≡ id_of (48 ∷ 48 ∷ x ∷ [])
-unfolding id_of decimal
-one_digit x = refl
-
-two_digits : (x y : ℕ) → id_of (x ∷ y ∷ []) ≡ id_of (48 ∷ x ∷ y ∷ [])
-unfolding id_of decimal
-two_digits x y = refl
-
-pub piece_1 : (t : List ℕ) (p e : ℕ) → p ≤ e → e ≤ length t → e - p ≡ 1 → id_of (take (e - p) (drop p t)) ≡ id_of (48 ∷ 48 ∷ get_or t p 0 ∷ [])
-piece_1 t p e le h n =
-    ap id_of (text_1 (take (e - p) (drop p t)) (slice_length t p e le h ∙ n))
-    ∙ one_digit _
-    ∙ rw (slice_first t p (e - p) (omega arith))
-
-pub piece_2 : (t : List ℕ) (p e : ℕ) → p ≤ e → e ≤ length t → e - p ≡ 2 → id_of (take (e - p) (drop p t)) ≡ id_of (48 ∷ get_or t p 0 ∷ get_or t (p + 1) 0 ∷ [])
-piece_2 t p e le h n =
-    ap id_of (text_2 (take (e - p) (drop p t)) (slice_length t p e le h ∙ n))
-    ∙ two_digits _ _
-    ∙ rw (slice_first t p (e - p) (omega arith), slice_at t p (e - p) 1 (omega arith))
-
-pub piece_3 : (t : List ℕ) (p e : ℕ) → p ≤ e → e ≤ length t → e - p ≡ 3
-    → id_of (take (e - p) (drop p t)) ≡ id_of (get_or t p 0 ∷ get_or t (p + 1) 0 ∷ get_or t (p + 2) 0 ∷ [])
-piece_3 t p e le h n =
-    ap id_of (text_3 (take (e - p) (drop p t)) (slice_length t p e le h ∙ n))
-    ∙ rw (slice_first t p (e - p) (omega arith), slice_at t p (e - p) 1 (omega arith), slice_at t p (e - p) 2 (omega arith))
-
-no_id : (s : List ℕ) (n : ℕ) → length s ≡ n → between 1 3 n ≡ false → id_of s ≡ 128
-unfolding id_of
-no_id s n l h = rw (l, h)
-
-apart : (n : ℕ) → (n ≡ 1 → ⊥) → (n ≡ 2 → ⊥) → (n ≡ 3 → ⊥) → between 1 3 n ≡ false
-apart zero a b c = refl
-apart (suc n) a b c = rw (lt-leb (suc n) 3 (omega arith), and-false)
-
--- neither one nor two nor three digits
-pub no_piece : (t : List ℕ) (p e : ℕ) → p ≤ e → e ≤ length t → (e - p ≡ 1 → ⊥) → (e - p ≡ 2 → ⊥) → (e - p ≡ 3 → ⊥)
-    → id_of (take (e - p) (drop p t)) ≡ 128
-no_piece t p e le h a b c = no_id _ (e - p) (slice_length t p e le h) (apart (e - p) a b c)
-
--- ---- members, looked at one after the other
-
-pub member_at : (x : ℕ) (l : List ℕ) (k i : ℕ) → i < k → i < length l → x ≡ get_or l i 0 → member x (take k l) ≡ true
-member_at x [] k i h lt e = absurd (omega arith)
-member_at x (y ∷ l) zero i h lt e = absurd (omega arith)
-member_at x (y ∷ l) (suc k) zero h lt e = rw (eq-eqb x y e)
-member_at x (y ∷ l) (suc k) (suc i) h lt e = rw (member_at x l k i (omega arith) (omega arith) e, or-true)
-
-pub member_none : (x : ℕ) (l : List ℕ) (k : ℕ) → k ≤ length l → ((i : ℕ) → i < k → x ≡ get_or l i 0 → ⊥) → member x (take k l) ≡ false
-member_none x l zero h other = refl
-member_none x [] (suc k) h other = absurd (omega arith)
-member_none x (y ∷ l) (suc k) h other =
-    rw (ne_eqb x y (other 0 (omega arith)), member_none x l k (omega arith) (λ i lt e. other (suc i) (omega arith) e))
-
-pub same_not : (a b : List ℕ) (k i : ℕ) → i < k → i < length a → i < length b → (get_or a i 0 ≡ get_or b i 0 → ⊥) → same (take k a) (take k b) ≡ false
-same_not [] b k i h la lb ne = absurd (omega arith)
-same_not (x ∷ a) [] k i h la lb ne = absurd (omega arith)
-same_not (x ∷ a) (y ∷ b) zero i h la lb ne = absurd (omega arith)
-same_not (x ∷ a) (y ∷ b) (suc k) zero h la lb ne = rw (ne_eqb x y ne, and-false)
-same_not (x ∷ a) (y ∷ b) (suc k) (suc i) h la lb ne = rw (same_not a b k i (omega arith) (omega arith) (omega arith) ne)
-
-pub same_all : (a b : List ℕ) (k : ℕ) → k ≤ length a → k ≤ length b → ((i : ℕ) → i < k → get_or a i 0 ≡ get_or b i 0) → same (take k a) (take k b) ≡ true
-same_all a b zero la lb h = refl
-same_all [] b (suc k) la lb h = absurd (omega arith)
-same_all (x ∷ a) [] (suc k) la lb h = absurd (omega arith)
-same_all (x ∷ a) (y ∷ b) (suc k) la lb h =
-    rw (same_all a b k (omega arith) (omega arith) (λ i lt. h (suc i) (omega arith)), eq-eqb x y (h 0 (omega arith)))
+pub is_same : (a b : List ℕ) → pointwise eqb a b ≡ same a b
+is_same [] [] = refl
+is_same [] (y ∷ b) = refl
+is_same (x ∷ a) [] = refl
+is_same (x ∷ a) (y ∷ b) = rw (is_same a b) (is_same_by (eqb x y) (same a b))
 
 -- ---- the rules of ids
 

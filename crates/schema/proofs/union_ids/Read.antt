@@ -12,8 +12,8 @@ use lib.Dec.{leb, ltb, eqb}
 use borrow.Author.Tests.{ltb-true, ltb-false}
 use Rattle.schema.specs.formats.Code.{code_of, code_at, is_union}
 use Rattle.schema.specs.union_ids.Ids.{before, pieces, first_comma, id_of, distinct, allowed, id_list, ids_at, answer_of, written}
-use Rattle.schema.specs.declared.union_ids.Ids.{Ids}
-use Rattle.schema.specs.declared.union_ids.Ids.TheVariants.{Count, Bad}
+use Rattle.std.specs.Prelude.{Some, None}
+use Rattle.std.specs.declared.option.Option as answer
 use Rattle.schema.proofs.formats.Laws.{either, union_inside}
 use Rattle.schema.proofs.union_ids.Laws.{comma_le, pieces_comma, pieces_last, small_not, small_more, distinct_not, distinct_more, allowed_small, allowed_distinct, allowed_long, allowed_all, small}
 use Rattle.columnar.specs.Test.{member}
@@ -164,16 +164,16 @@ module _ (t ids trial : List ℕ) (p k e x : ℕ) (h : Read t ids trial p k) (n 
 
 -- ---- the answer with the array
 
-pub bad : (o : Option (List ℕ)) (ids : List ℕ) → o ≡ none → (Bad ≡ answer_of o) × (ids ≡ written o ids)
+pub bad : (o : Option (List ℕ)) (ids : List ℕ) → o ≡ none → (None ≡ answer_of o) × (ids ≡ written o ids)
 bad o ids e = (rw e, rw e)
 
-pub bad_kept : (o : Option (List ℕ)) (out ids : List ℕ) → out ≡ ids → o ≡ none → (Bad ≡ answer_of o) × (out ≡ written o ids)
+pub bad_kept : (o : Option (List ℕ)) (out ids : List ℕ) → out ≡ ids → o ≡ none → (None ≡ answer_of o) × (out ≡ written o ids)
 bad_kept o out ids q e = (rw e, rw e q)
 
-pub good : (o : Option (List ℕ)) (l out ids : List ℕ) (k : ℕ) → o ≡ some l → length l ≡ k → out ≡ l ++ drop k ids → (Count k ≡ answer_of o) × (out ≡ written o ids)
+pub good : (o : Option (List ℕ)) (l out ids : List ℕ) (k : ℕ) → o ≡ some l → length l ≡ k → out ≡ l ++ drop k ids → (Some k ≡ answer_of o) × (out ≡ written o ids)
 good o l out ids k e n q = (rw (e, n), rw (e, n) q)
 
-pub same_answer : (o o2 : Option (List ℕ)) (r : Ids) (out ids : List ℕ) → o ≡ o2 → (r ≡ answer_of o2) × (out ≡ written o2 ids) → (r ≡ answer_of o) × (out ≡ written o ids)
+pub same_answer : (o o2 : Option (List ℕ)) (r : answer.Option ℕ) (out ids : List ℕ) → o ≡ o2 → (r ≡ answer_of o2) × (out ≡ written o2 ids) → (r ≡ answer_of o) × (out ≡ written o ids)
 same_answer o o2 r out ids e h = rw e h
 
 -- ---- the ids of a format in a slice

@@ -3,7 +3,7 @@ use mathlib.Core.Path.{◌≡◌, refl, ap, sym, ◌∙◌}
 use mathlib.Core.Bool.{Bool, true, false, not, cond, ◌&&◌, ◌||◌, and-false}
 use mathlib.Core.List.{List, [], ◌∷◌, map}
 use mathlib.Core.Option.{Option, none, some}
-use Prim.Native.Nat.{ℕ, suc, ◌+◌, ◌≤◌}
+use Prim.Native.Nat.{ℕ, ◌+◌, ◌≤◌}
 use native.Mathlib.Omega.{arith}
 use lib.ListN.{length, take, drop, length-append, length-drop}
 use lib.Seq.{take_at}
@@ -11,9 +11,10 @@ use lib.Dec.{leb, eqb}
 use borrow.Author.Tests.{leb-true, eq-eqb, ne_eqb}
 use Rattle.schema.specs.formats.Code.{code_of, is_union}
 use Rattle.schema.specs.union_ids.Ids.{pieces, id_of, distinct, allowed, id_list, ids_at, answer_of, written, same_ids}
-use Rattle.schema.specs.declared.union_ids.Ids.{Ids}
-use Rattle.schema.specs.declared.union_ids.Ids.TheVariants.{Count, Bad}
-use Rattle.schema.proofs.union_ids.Laws.{both, small}
+use Rattle.std.specs.Prelude.{Some, None}
+use Rattle.std.specs.Cmp.Lexicographic.{pointwise}
+use Rattle.std.specs.declared.option.Option as answer
+use Rattle.schema.proofs.union_ids.Laws.{both, small, is_same}
 use Rattle.columnar.specs.Test.{same}
 
 -- ---- the ids of a format
@@ -61,60 +62,45 @@ written_length (some l) s h e = simp (length-append, length-drop) (omega (arith,
 
 -- ---- two lists of ids
 
-same_long : (a b : List ℕ) → (length a ≡ length b → ⊥) → same a b ≡ false
-same_long [] [] h = absurd (h refl)
-same_long [] (y ∷ b) h = refl
-same_long (x ∷ a) [] h = refl
-same_long (x ∷ a) (y ∷ b) h = rw (same_long a b (λ e. h (ap suc e)))
-
-never : (k : ℕ) → Count k ≡ Bad → ⊥
+never : (k : ℕ) → Some k ≡ None → ⊥
 never k e = let z : ◌≡◌ {A = ℕ} 0 1 = cc in omega arith
 
-counted : (j k : ℕ) → Count j ≡ Count k → j ≡ k
+counted : (j k : ℕ) → Some j ≡ Some k → j ≡ k
 counted j k e = cc
 
-pub bad_first : (o o2 : Option (List ℕ)) (r : Ids) → r ≡ answer_of o → r ≡ Bad → same_ids o o2 ≡ false
+pub bad_first : (o o2 : Option (List ℕ)) (r : answer.Option ℕ) → r ≡ answer_of o → r ≡ None → same_ids o o2 ≡ false
 bad_first none o2 r e h = refl
 bad_first (some l) o2 r e h = absurd (never (length l) (sym e ∙ h))
 
-pub bad_second : (o o2 : Option (List ℕ)) (r : Ids) → r ≡ answer_of o2 → r ≡ Bad → same_ids o o2 ≡ false
+pub bad_second : (o o2 : Option (List ℕ)) (r : answer.Option ℕ) → r ≡ answer_of o2 → r ≡ None → same_ids o o2 ≡ false
 bad_second none o2 r e h = refl
 bad_second (some l) none r e h = refl
 bad_second (some l) (some m) r e h = absurd (never (length m) (sym e ∙ h))
 
-module _ (o o2 : Option (List ℕ)) (r r2 : Ids) (j k : ℕ) (e : r ≡ answer_of o) (h : r ≡ Count j) (e2 : r2 ≡ answer_of o2) (h2 : r2 ≡ Count k) where
-  counts_by : (p p2 : Option (List ℕ)) → answer_of p ≡ Count j → answer_of p2 ≡ Count k → (j ≡ k → ⊥) → same_ids p p2 ≡ false
-  counts_by none p2 a b n = refl
-  counts_by (some l) none a b n = refl
-  counts_by (some l) (some m) a b n = same_long l m (λ q. n (sym (counted _ _ a) ∙ q ∙ counted _ _ b))
-
-  pub counts_differ : (j ≡ k → ⊥) → same_ids o o2 ≡ false
-  counts_differ n = counts_by o o2 (sym e ∙ h) (sym e2 ∙ h2) n
-
-none_count : (k : ℕ) → Bad ≡ Count k → ⊥
+none_count : (k : ℕ) → None ≡ Some k → ⊥
 none_count k e = never k (sym e)
 
-front : (l s : List ℕ) (k : ℕ) → Count (length l) ≡ Count k → take k (written (some l) s) ≡ l
+front : (l s : List ℕ) (k : ℕ) → Some (length l) ≡ Some k → take k (written (some l) s) ≡ l
 front l s k e = take_at l (drop (length l) s) k (counted _ _ e)
 
-front_same : (p p2 : Option (List ℕ)) (s s2 : List ℕ) (k : ℕ) → answer_of p ≡ Count k → answer_of p2 ≡ Count k
-    → same (take k (written p s)) (take k (written p2 s2)) ≡ same_ids p p2
-front_same none p2 s s2 k a b = absurd (none_count k a)
-front_same (some l) none s s2 k a b = absurd (none_count k b)
-front_same (some l) (some m) s s2 k a b = rw (front l s k a, front m s2 k b)
+front_same : (p p2 : Option (List ℕ)) (s s2 : List ℕ) (j k : ℕ) → answer_of p ≡ Some j → answer_of p2 ≡ Some k
+    → same (take j (written p s)) (take k (written p2 s2)) ≡ same_ids p p2
+front_same none p2 s s2 j k a b = absurd (none_count j a)
+front_same (some l) none s s2 j k a b = absurd (none_count k b)
+front_same (some l) (some m) s s2 j k a b = rw (front l s j a, front m s2 k b)
 
--- the answer of the comparison of two arrays' first k
-pub compared : (o o2 : Option (List ℕ)) (r r2 : Ids) (j k : ℕ) (s s2 a b : List ℕ)
-    → r ≡ answer_of o → r ≡ Count j → r2 ≡ answer_of o2 → r2 ≡ Count k → j ≡ k → a ≡ written o s → b ≡ written o2 s2
-    → same (take j a) (take j b) ≡ same_ids o o2
-compared o o2 r r2 j k s s2 a b e h e2 h2 q wa wb =
-    rw (wa, wb) (front_same o o2 s s2 j (sym e ∙ h) (sym e2 ∙ h2 ∙ ap Count (sym q)))
+-- the answer of the comparison of the fronts of two arrays
+pub compared : (o o2 : Option (List ℕ)) (r r2 : answer.Option ℕ) (j k : ℕ) (s s2 a b : List ℕ)
+    → r ≡ answer_of o → r ≡ Some j → r2 ≡ answer_of o2 → r2 ≡ Some k → a ≡ written o s → b ≡ written o2 s2
+    → pointwise eqb (take j a) (take k b) ≡ same_ids o o2
+compared o o2 r r2 j k s s2 a b e h e2 h2 wa wb =
+    is_same (take j a) (take k b) ∙ rw (wa, wb) (front_same o o2 s s2 j k (sym e ∙ h) (sym e2 ∙ h2))
 
-fine_count : (o : Option (List ℕ)) (k : ℕ) → answer_of o ≡ Count k → Fine o → k ≤ 16
+fine_count : (o : Option (List ℕ)) (k : ℕ) → answer_of o ≡ Some k → Fine o → k ≤ 16
 fine_count none k e h = absurd (none_count k e)
 fine_count (some l) k e h = omega (arith, h.few, counted (length l) k e)
 
-pub count_fine : (o : Option (List ℕ)) (r : Ids) (k : ℕ) → r ≡ answer_of o → r ≡ Count k → Fine o → k ≤ 16
+pub count_fine : (o : Option (List ℕ)) (r : answer.Option ℕ) (k : ℕ) → r ≡ answer_of o → r ≡ Some k → Fine o → k ≤ 16
 count_fine o r k e h s = fine_count o k (sym e ∙ h) s
 
 -- ---- two formats, by their codes x and y; w is whether their ids are the same

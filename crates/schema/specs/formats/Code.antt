@@ -1,6 +1,6 @@
 -- The formats of the Arrow C Data Interface that 01 admits ("Column types and ceilings"), each with a code, and what a code means.
 -- A text is a list of bytes. Assumes nothing.
-use Rattle.std.specs.Prelude.{Bool, true, false, cond, ◌&&◌, List, [], ◌∷◌, ℕ, ◌+◌, length, take, drop, get_or, leb, eqb}
+use Rattle.std.specs.Prelude.{Bool, cond, ◌&&◌, List, [], ◌∷◌, ℕ, ◌+◌, length, take, drop, get_or, leb, eqb}
 use Rattle.columnar.specs.Test.{same}
 
 -- a rule of the table: the format is this text, or it begins with this text; and the format's code

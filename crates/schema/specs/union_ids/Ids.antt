@@ -1,9 +1,8 @@
 -- The ids of a union's format (01: "at most 16 union fields with distinct ids 0 to 127"). Assumes nothing.
-use Rattle.std.specs.Prelude.{Bool, true, false, not, cond, ◌&&◌, ◌||◌, List, [], ◌∷◌, ◌++◌, map, ℕ, suc, ◌+◌, ◌*◌, ◌-◌, length, take, drop, leb, eqb}
+use Rattle.std.specs.Prelude.{Some, None, Bool, true, false, not, cond, ◌&&◌, ◌||◌, List, [], ◌∷◌, ◌++◌, map, ℕ, suc, ◌+◌, ◌*◌, ◌-◌, length, take, drop, leb, eqb}
 use Rattle.std.proofs.Math.Option.{Option, none, some}
 use Rattle.schema.specs.formats.Code.{code_of, code_at, between, is_union}
-use Rattle.schema.specs.declared.union_ids.Ids.{Ids}
-use Rattle.schema.specs.declared.union_ids.Ids.TheVariants.{Count, Bad}
+use Rattle.std.specs.declared.option.Option as answer
 use Rattle.columnar.specs.Test.{each, member, same}
 
 -- ---- the texts between commas, and the number of each
@@ -58,10 +57,10 @@ ids_at s at len = cond (leb (at + len) (length s)) (ids_of (take len (drop at s)
 
 -- ---- how they are answered
 
--- how many there are; Bad where a union may not have them
-abbrev pub answer_of : Option (List ℕ) → Ids
-answer_of (some ids) = Count (length ids)
-answer_of none = Bad
+-- how many there are; none where a union may not have them
+abbrev pub answer_of : Option (List ℕ) → answer.Option ℕ
+answer_of (some ids) = Some (length ids)
+answer_of none = None
 
 -- the ids written over the front of an array; without ids it stays as it was
 abbrev pub written : Option (List ℕ) → List ℕ → List ℕ

