@@ -11,6 +11,7 @@ use crate::cells::Cells;
 use crate::patterns::Part;
 use crate::tally::Tally;
 use crate::{patterns, tally};
+use number::Unsigned;
 
 // ---- validity
 
@@ -20,12 +21,12 @@ fn word_at(body: &[u8], q: usize, j: usize) -> u64
     ensures { digits 64 result ≡ bits_at (8 * q + j) 64 (was body) }
 {
     if j == 0 {
-        return number::read_u64(body, q);
+        return u64::read(body, q);
     }
     let k = 8 - j;
     let p = 1u64 << k;
-    let lo = (number::read_u64(body, q) >> j) % p;
-    lo + (number::read_u64(body, q + 1) << k)
+    let lo = (u64::read(body, q) >> j) % p;
+    lo + (u64::read(body, q + 1) << k)
 }
 
 // The validity of 64 slots; ones where there is no map.

@@ -171,10 +171,8 @@ fn sum_words(body: &[u8], a: Numbers, b: Numbers, start: u64, words: u64) -> Tal
     ensures { Tallied (both_cells (cell_in (was body) a) (cell_in (was body) b)) start (64 * words) result }
 {
     let mut t = tally::nothing();
-    let mut k = 0u64;
-    while k < words {
+    for k in 0..words {
         t = tally::joined(t, sum_word(body, a, b, start + 64 * k));
-        k += 1;
     }
     t
 }
@@ -186,12 +184,10 @@ fn sum_cells(body: &[u8], a: Numbers, b: Numbers, start: u64, end: u64) -> Tally
     ensures { Tallied (both_cells (cell_in (was body) a) (cell_in (was body) b)) start (end - start) result }
 {
     let mut t = tally::nothing();
-    let mut row = start;
-    while row < end {
+    for row in start..end {
         let c = plain_cell(body, a, row);
         let d = plain_cell(body, b, row);
         t = tally::added(t, masked(c, d), 1);
-        row += 1;
     }
     t
 }

@@ -1,8 +1,10 @@
 // Sums of numbers that stand one behind the other in the body, by blocks, so that 64 bits hold the sums of their halves.
-ghost use Rattle.std.specs.Prelude.{◌≡◌, ◌+◌, ◌*◌, ◌<◌, ◌≤◌, length, drop};
+ghost use Rattle.std.specs.Prelude.{◌≡◌, ◌+◌, ◌*◌, ◌/◌, ◌^◌, ◌<◌, ◌≤◌, length, drop};
 ghost use Rattle.clauses.specs.Slices.{was};
 ghost use Rattle.number.specs.Number.{number};
-ghost use Rattle.aggregates.specs.patterns.Parts.{block_rows, Sized, pattern_in, bit_of, kept_in, Added};
+ghost use Rattle.aggregates.specs.patterns.Parts.{block_rows, Sized, top_bit, pattern_in, bit_of, kept_in, Added};
+
+use number::Unsigned;
 
 // The most numbers of a block.
 pub const BLOCK: u64 = 1048576;
@@ -22,29 +24,41 @@ pub fn read_pattern(body: &[u8], at: usize, w: u8) -> u64
     ensures { result ≡ number w (drop at (was body)) }
 {
     match w {
-        1 => number::read_u8(body, at) as u64,
-        2 => number::read_u16(body, at) as u64,
-        4 => number::read_u32(body, at) as u64,
-        _ => number::read_u64(body, at),
+        1 => u8::read(body, at) as u64,
+        2 => u16::read(body, at) as u64,
+        4 => u32::read(body, at) as u64,
+        _ => u64::read(body, at),
     }
 }
 
+// Number i of those from a position on.
+fn number_at<N: Unsigned>(body: &[u8], at: usize, i: usize) -> u64
+    requires { at + i * N.SIZE + N.SIZE ≤ length body.now }
+    ensures { result ≡ pattern_in (was body) at N.SIZE i }
+{
+    N::read(body, at + i * N::SIZE).to_u64()
+}
+
+// The top bit of a number of N's bytes.
+fn top_bit<N: Unsigned>(x: u64) -> u64
+    ensures { result ≡ x / 2 ^ top_bit N.SIZE }
+{
+    x >> (8 * N::SIZE - 1)
+}
+
 // All of n numbers.
-fn add_all(body: &[u8], at: usize, w: u8, n: usize) -> Part
-    requires { Sized w × (n ≤ block_rows) × (at + n * w ≤ length body.now) }
-    ensures { Added (pattern_in (was body) at w) (λ i. 1) w n result }
+fn add_all<N: Unsigned>(body: &[u8], at: usize, n: usize) -> Part
+    requires { (n ≤ block_rows) × (at + n * N.SIZE ≤ length body.now) }
+    ensures { Added (pattern_in (was body) at N.SIZE) (λ i. 1) N.SIZE n result }
 {
     let mut low = 0u64;
     let mut high = 0u64;
     let mut below = 0u64;
-    let top = 8 * w - 1;
-    let mut i = 0usize;
-    while i < n {
-        let x = read_pattern(body, at + i * (w as usize), w);
+    for i in 0..n {
+        let x = number_at::<N>(body, at, i);
         low += x % 4294967296;
         high += x / 4294967296;
-        below += x >> top;
-        i += 1;
+        below += top_bit::<N>(x);
     }
     Part {
         count: n as u64,
@@ -55,26 +69,23 @@ fn add_all(body: &[u8], at: usize, w: u8, n: usize) -> Part
 }
 
 // Those of 64 numbers whose bit in m is 1.
-fn add_some(body: &[u8], at: usize, w: u8, m: u64) -> Part
-    requires { Sized w × (at + 64 * w ≤ length body.now) }
-    ensures { Added (kept_in (was body) at w m) (bit_of m) w 64 result }
+fn add_some<N: Unsigned>(body: &[u8], at: usize, m: u64) -> Part
+    requires { at + 64 * N.SIZE ≤ length body.now }
+    ensures { Added (kept_in (was body) at N.SIZE m) (bit_of m) N.SIZE 64 result }
 {
     let mut count = 0u64;
     let mut low = 0u64;
     let mut high = 0u64;
     let mut below = 0u64;
-    let top = 8 * w - 1;
     let mut bits = m;
-    let mut i = 0usize;
-    while i < 64 {
+    for i in 0..64 {
         let bit = bits % 2;
-        let x = read_pattern(body, at + i * (w as usize), w) * bit;
+        let x = number_at::<N>(body, at, i) * bit;
         count += bit;
         low += x % 4294967296;
         high += x / 4294967296;
-        below += x >> top;
+        below += top_bit::<N>(x);
         bits /= 2;
-        i += 1;
     }
     Part {
         count,
@@ -90,10 +101,10 @@ pub fn sum_all(body: &[u8], at: usize, w: u8, n: usize) -> Part
     ensures { Added (pattern_in (was body) at w) (λ i. 1) w n result }
 {
     match w {
-        1 => add_all(body, at, 1, n),
-        2 => add_all(body, at, 2, n),
-        4 => add_all(body, at, 4, n),
-        _ => add_all(body, at, 8, n),
+        1 => add_all::<u8>(body, at, n),
+        2 => add_all::<u16>(body, at, n),
+        4 => add_all::<u32>(body, at, n),
+        _ => add_all::<u64>(body, at, n),
     }
 }
 
@@ -103,9 +114,9 @@ pub fn sum_some(body: &[u8], at: usize, w: u8, m: u64) -> Part
     ensures { Added (kept_in (was body) at w m) (bit_of m) w 64 result }
 {
     match w {
-        1 => add_some(body, at, 1, m),
-        2 => add_some(body, at, 2, m),
-        4 => add_some(body, at, 4, m),
-        _ => add_some(body, at, 8, m),
+        1 => add_some::<u8>(body, at, m),
+        2 => add_some::<u16>(body, at, m),
+        4 => add_some::<u32>(body, at, m),
+        _ => add_some::<u64>(body, at, m),
     }
 }

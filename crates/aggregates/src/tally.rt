@@ -5,6 +5,7 @@ ghost use Rattle.aggregates.specs.tally.Sums.{total_of};
 
 use crate::wide;
 use crate::wide::Wide;
+use number::Signed;
 
 // What one row adds: 1 where it counts, the number as two's complement of its bytes, and 1 where it is below zero.
 #[derive(Clone, Copy)]
@@ -97,7 +98,7 @@ pub fn exact_sum(t: Tally, lift: u64) -> Total
     let sum = wide::sum(Wide { hi: t.hi, lo: t.lo }, more);
     if sum.hi == t.below {
         if sum.lo < 9223372036854775808 {
-            return Total::Fits(number::value_i64(sum.lo));
+            return Total::Fits(i64::from_pattern(sum.lo));
         }
         return Total::Outside;
     }
@@ -106,7 +107,7 @@ pub fn exact_sum(t: Tally, lift: u64) -> Total
     }
     if sum.hi == t.below - 1 {
         if 9223372036854775808 <= sum.lo {
-            return Total::Fits(number::value_i64(sum.lo));
+            return Total::Fits(i64::from_pattern(sum.lo));
         }
     }
     Total::Outside

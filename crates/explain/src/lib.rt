@@ -298,8 +298,7 @@ fn walk_orders(
     ensures { result ≡ why_trip (lent_all plan parts sources lengths places body) m (was counters) (calls_of (was orders)) }
 {
     let mut tally = transform::load(counters);
-    let mut k: usize = 0;
-    while k < n {
+    for k in 0..n {
         let w = order_at(
             plan, parts, sources, lengths, places, body, &mut tally, m, orders, k,
         );
@@ -309,7 +308,6 @@ fn walk_orders(
                 why: w,
             };
         }
-        k += 1;
     }
     at_first(0)
 }

@@ -95,14 +95,11 @@ pub fn step_list_view(
     if !nested_rows::pairs_in(places, body, first, i, w, w, slot, n) {
         return Step::Here(crate::stop_walks::plain(FOREIGN));
     }
-    let mut r: u64 = 0;
-    while r < n {
+    for r in 0..n {
         match list_row(
             plan, parts, lengths, places, body, counters, source, first, i, w, slot, r, depth,
         ) {
-            Step::On => {
-                r += 1;
-            }
+            Step::On => {}
             Step::Here(w) => return Step::Here(w),
             Step::Below { node, row, rows } => return Step::Below { node, row, rows },
         }

@@ -106,15 +106,13 @@ fn step_sparse(
     }
     let end = plan_words::end_of(plan, i);
     let mut k = i + 1;
-    let mut t: usize = 0;
-    while t < 32 {
+    for t in 0..32usize {
         if end <= k {
             return NullStep::On;
         }
         match step_into(plan, parts, counters, k, n, depth) {
             NullStep::On => {
                 k = plan_words::end_of(plan, k);
-                t += 1;
             }
             NullStep::Here(w) => return NullStep::Here(w),
             NullStep::Below { node, count } => return NullStep::Below { node, count },

@@ -212,13 +212,11 @@ pub fn why_parts(
     ensures { result ≡ why_parts (was plan) (was counters) (was parts) (r + n) }
 {
     let nodes = plan::parts::node_count(plan);
-    let mut i = 0;
-    while i < nodes {
+    for i in 0..nodes {
         let w = why_node(plan, counters, parts, i, r, n);
         if w.refusal != 0 {
             return w;
         }
-        i += 1;
     }
     crate::stop_walks::plain(0)
 }

@@ -41,8 +41,7 @@ pub fn step_sparse(
     }
     let end = plan_words::end_of(plan, i);
     let mut k = i + 1;
-    let mut t: usize = 0;
-    while t < 32 {
+    for t in 0..32usize {
         if end <= k {
             return Step::On;
         }
@@ -51,7 +50,6 @@ pub fn step_sparse(
         ) {
             Step::On => {
                 k = plan_words::end_of(plan, k);
-                t += 1;
             }
             Step::Here(w) => return Step::Here(w),
             Step::Below { node, row, rows } => return Step::Below { node, row, rows },
@@ -122,14 +120,11 @@ pub fn step_dense(
     if !nested_rows::pairs_in(places, body, first, i, 1, 4, slot, n) {
         return Step::Here(crate::stop_walks::plain(FOREIGN));
     }
-    let mut r: u64 = 0;
-    while r < n {
+    for r in 0..n {
         match dense_row(
             plan, parts, lengths, places, body, counters, source, first, i, slot, r, depth,
         ) {
-            Step::On => {
-                r += 1;
-            }
+            Step::On => {}
             Step::Here(w) => return Step::Here(w),
             Step::Below { node, row, rows } => return Step::Below { node, row, rows },
         }

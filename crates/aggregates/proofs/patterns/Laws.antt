@@ -3,6 +3,7 @@ use Rattle.std.proofs.Common.{◌≡◌, ℕ, zero, suc, ◌+◌, ◌*◌, ◌/�
 use borrow.Author.Tests.{eqb-false}
 use Rattle.number.specs.Number.{number}
 use Rattle.number.proofs.Laws.{number_lt}
+use Rattle.number.specs.Sizes.{Sized as Bytes}
 use Rattle.aggregates.specs.patterns.Parts.{Sized, top_bit, up_to}
 
 -- ---- sums
@@ -36,9 +37,22 @@ four P a b c d w h = go (eqb w 1) refl (eqb w 2) refl (eqb w 4) refl
 pub some_bytes : (w : ℕ) → Sized w → (1 ≤ w) × (w ≤ 8)
 some_bytes = four (λ w. (1 ≤ w) × (w ≤ 8)) (omega arith, omega arith) (omega arith, omega arith) (omega arith, omega arith) (omega arith, omega arith)
 
+-- a fact of each from 1 to 8
+eight : (P : ℕ → Type 0) → P 1 → P 2 → P 3 → P 4 → P 5 → P 6 → P 7 → P 8 → (w : ℕ) → Bytes w → P w
+eight P a b c d e f g h zero s = absurd (omega (arith, s.some))
+eight P a b c d e f g h (suc zero) s = a
+eight P a b c d e f g h (suc (suc zero)) s = b
+eight P a b c d e f g h (suc (suc (suc zero))) s = c
+eight P a b c d e f g h (suc (suc (suc (suc zero)))) s = d
+eight P a b c d e f g h (suc (suc (suc (suc (suc zero))))) s = e
+eight P a b c d e f g h (suc (suc (suc (suc (suc (suc zero)))))) s = f
+eight P a b c d e f g h (suc (suc (suc (suc (suc (suc (suc zero))))))) s = g
+eight P a b c d e f g h (suc (suc (suc (suc (suc (suc (suc (suc zero)))))))) s = h
+eight P a b c d e f g h (suc (suc (suc (suc (suc (suc (suc (suc (suc w))))))))) s = absurd (omega (arith, s.eight))
+
 -- the top bit of a number of w bytes is 0 or 1
-pub one_top : (x w : ℕ) → Sized w → x < 256 ^ w → x / 2 ^ top_bit w ≤ 1
-one_top x = four (λ w. x < 256 ^ w → x / 2 ^ top_bit w ≤ 1) (λ l. omega arith) (λ l. omega arith) (λ l. omega arith) (λ l. omega arith)
+pub one_top : (x w : ℕ) → Bytes w → x < 256 ^ w → x / 2 ^ top_bit w ≤ 1
+one_top x = eight (λ w. x < 256 ^ w → x / 2 ^ top_bit w ≤ 1) (λ l. omega arith) (λ l. omega arith) (λ l. omega arith) (λ l. omega arith) (λ l. omega arith) (λ l. omega arith) (λ l. omega arith) (λ l. omega arith)
 
 pub read_lt : (body : List ℕ) → ((j : ℕ) → get_or body j 0 < 256) → (at w x : ℕ) → x ≡ number w (drop at body) → x < 256 ^ w
 read_lt body u at w x e = rw e (number_lt w (drop at body) (λ j. rw get_or-drop (u (at + j))))

@@ -4,35 +4,25 @@ use Rattle.aggregates.specs.cell_sums.Numbers.{cell_in}
 use Rattle.aggregates.proofs.cell_sums.Laws.{turn_one, mask_same, room, room_of, before_any, at_end, fits_next, next_low, next_in, next_from, nearer, same_start}
 use Rattle.aggregates.proofs.cell_sums.sum_cells.Goals as goal
 
-one_more : (a : ℕ) → a < a + 1
-one_more a = omega arith
-
 pub loop-row-init : goal.loop-row-init
-loop-row-init c = (same_start c.args.start, c.requires.start_le_end.0, before_any _ c.args.start _ c.nothing-t.ensures)
+loop-row-init c = before_any _ c.args.start _ c.nothing-t.ensures
 
 pub plain_cell-c-requires : goal.plain_cell-c-requires
 plain_cell-c-requires c =
     let l = c.loop-row in
-    (c.requires.start_le_end.2, c.requires.all_ready.0 l.row l.invariant.0 c.loop-row-test.true)
+    (c.requires.start_le_end.2, c.requires.all_ready.0 l.row (omega arith) c.loop-row-test.true)
 
 pub plain_cell-d-requires : goal.plain_cell-d-requires
 plain_cell-d-requires c =
     let l = c.loop-row in
-    (c.requires.start_le_end.3, c.requires.all_ready.1 l.row l.invariant.0 c.loop-row-test.true)
+    (c.requires.start_le_end.3, c.requires.all_ready.1 l.row (omega arith) c.loop-row-test.true)
 
 pub masked-requires : goal.masked-requires
 masked-requires c = c.plain_cell-c.ensures.1
 
 pub added-t-requires : goal.added-t-requires
 added-t-requires c =
-    record { count_bound = room_of _ c.masked.ensures.1; n_bound = room _ c.args.start c.loop-row.row 1 _ c.loop-row.invariant.2 (next_low _ _ c.loop-row-test.true c.requires.start_le_end.1) }
-
-pub overflow_add-row : goal.overflow_add-row
-overflow_add-row c =
-    record { fits = fits_next _ _ c.loop-row-test.true c.requires.start_le_end.1 }
-
-pub loop-row-smaller : goal.loop-row-smaller
-loop-row-smaller c = nearer _ _ _ (one_more _) (next_in _ _ c.loop-row-test.true)
+    record { count_bound = room_of _ c.masked.ensures.1; n_bound = room _ c.args.start c.loop-row.row 1 _ c.loop-row.invariant (next_low _ _ c.loop-row-test.true c.requires.start_le_end.1) }
 
 pub loop-row-preserved : goal.loop-row-preserved
 loop-row-preserved c =
@@ -41,13 +31,10 @@ loop-row-preserved c =
     let g = cell_in c.args.body.now c.args.b in
     let p = c.plain_cell-c.ensures in
     let q = c.plain_cell-d.ensures in
-    let m = c.masked.ensures in (
-      next_from _ _ l.invariant.0,
-      next_in _ _ c.loop-row-test.true,
-      turn_one _ c.args.start l.row _ _ _ l.invariant.0 l.invariant.2 m.1 (mask_same f g _ _ l.row (sym p.0) (sym q.0) _ m.0) c.added-t.ensures,
-    )
+    let m = c.masked.ensures in
+    turn_one _ c.args.start l.row _ _ _ (omega arith) l.invariant m.1 (mask_same f g _ _ l.row (sym p.0) (sym q.0) _ m.0) c.added-t.ensures
 
 pub returns : goal.returns
 returns c =
     let l = c.loop-row in
-    at_end _ c.args.start l.row _ _ l.invariant.1 c.loop-row-test.false l.invariant.2
+    at_end _ c.args.start l.row _ _ (omega arith) (omega arith) l.invariant

@@ -4,7 +4,4 @@ use Rattle.aggregates.specs.cell_sums.Numbers.{cell_in, both_cells}
 use Rattle.aggregates.proofs.cell_sums.sum_cells.Given as goal
 
 abbrev pub invariant-loop-row : goal.invariant-loop-row
-invariant-loop-row l = (l.start ≤ l.row) × (l.row ≤ l.end) × Tallied (both_cells (cell_in l.body l.a) (cell_in l.body l.b)) l.start (l.row - l.start) l.t
-
-abbrev pub decreases-loop-row : goal.decreases-loop-row
-decreases-loop-row l = l.end - l.row
+invariant-loop-row l = Tallied (both_cells (cell_in l.body l.a) (cell_in l.body l.b)) l.start (l.row - l.start) l.t

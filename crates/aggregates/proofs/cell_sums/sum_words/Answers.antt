@@ -5,13 +5,10 @@ use Rattle.aggregates.proofs.cell_sums.Laws.{next_in, nearer}
 use Rattle.aggregates.proofs.cell_sums.Plain.{join_room, join_word, part_ready, word_stop, word_low, first_in, all_words}
 use Rattle.aggregates.proofs.cell_sums.sum_words.Goals as goal
 
-one_more : (a : ℕ) → a < a + 1
-one_more a = omega arith
-
 pub loop-k-init : goal.loop-k-init
 loop-k-init c =
     let e = c.nothing-t.ensures in
-    (omega arith, none_yet _ c.args.start _ e.0 e.1 e.2 e.3)
+    none_yet _ c.args.start _ e.0 e.1 e.2 e.3
 
 pub overflow_mul-k : goal.overflow_mul-k
 overflow_mul-k c =
@@ -37,21 +34,14 @@ sum_word-requires c =
 pub joined-t-requires : goal.joined-t-requires
 joined-t-requires c =
     let l = c.loop-k in
-    join_room l.invariant.1 c.sum_word.ensures (word_low c.args.start l.k c.args.words c.loop-k-test.true c.requires.words_bound.0).2
-
-pub overflow_add-k : goal.overflow_add-k
-overflow_add-k c =
-    record { fits = (word_low c.args.start _ c.args.words c.loop-k-test.true c.requires.words_bound.0).3 }
-
-pub loop-k-smaller : goal.loop-k-smaller
-loop-k-smaller c = nearer _ _ _ (one_more _) (next_in _ _ c.loop-k-test.true)
+    join_room l.invariant c.sum_word.ensures (word_low c.args.start l.k c.args.words c.loop-k-test.true c.requires.words_bound.0).2
 
 pub loop-k-preserved : goal.loop-k-preserved
 loop-k-preserved c =
     let l = c.loop-k in
-    (next_in _ _ c.loop-k-test.true, join_word _ c.args.start l.k _ _ _ l.invariant.1 c.sum_word.ensures c.joined-t.ensures)
+    join_word _ c.args.start l.k _ _ _ l.invariant c.sum_word.ensures c.joined-t.ensures
 
 pub returns : goal.returns
 returns c =
     let l = c.loop-k in
-    all_words _ c.args.start l.k c.args.words _ l.invariant.0 c.loop-k-test.false l.invariant.1
+    all_words _ c.args.start l.k c.args.words _ (omega arith) (omega arith) l.invariant

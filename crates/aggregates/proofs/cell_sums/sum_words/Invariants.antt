@@ -4,7 +4,4 @@ use Rattle.aggregates.specs.cell_sums.Numbers.{cell_in, both_cells}
 use Rattle.aggregates.proofs.cell_sums.sum_words.Given as goal
 
 abbrev pub invariant-loop-k : goal.invariant-loop-k
-invariant-loop-k l = (l.k ≤ l.words) × Tallied (both_cells (cell_in l.body l.a) (cell_in l.body l.b)) l.start (64 * l.k) l.t
-
-abbrev pub decreases-loop-k : goal.decreases-loop-k
-decreases-loop-k l = l.words - l.k
+invariant-loop-k l = Tallied (both_cells (cell_in l.body l.a) (cell_in l.body l.b)) l.start (64 * l.k) l.t

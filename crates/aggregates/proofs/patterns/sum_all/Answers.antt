@@ -5,19 +5,19 @@ use Rattle.aggregates.proofs.patterns.sum_all.Goals as goal
 
 pub add_all-requires : goal.add_all-requires
 add_all-requires c =
-    subst (λ w. Sized w × (c.args.n ≤ block_rows) × (c.args.at + c.args.n * w ≤ length c.args.body.now)) c.in-1.is c.requires
+    (c.requires.1, subst (λ w. c.args.at + c.args.n * w ≤ length c.args.body.now) c.in-1.is c.requires.2)
 
 pub add_all-requires-in-2 : goal.add_all-requires-in-2
 add_all-requires-in-2 c =
-    subst (λ w. Sized w × (c.args.n ≤ block_rows) × (c.args.at + c.args.n * w ≤ length c.args.body.now)) c.in-2.is c.requires
+    (c.requires.1, subst (λ w. c.args.at + c.args.n * w ≤ length c.args.body.now) c.in-2.is c.requires.2)
 
 pub add_all-requires-in-4 : goal.add_all-requires-in-4
 add_all-requires-in-4 c =
-    subst (λ w. Sized w × (c.args.n ≤ block_rows) × (c.args.at + c.args.n * w ≤ length c.args.body.now)) c.in-4.is c.requires
+    (c.requires.1, subst (λ w. c.args.at + c.args.n * w ≤ length c.args.body.now) c.in-4.is c.requires.2)
 
 pub add_all-requires-in_default : goal.add_all-requires-in_default
 add_all-requires-in_default c =
-    subst (λ w. Sized w × (c.args.n ≤ block_rows) × (c.args.at + c.args.n * w ≤ length c.args.body.now)) (let r = c.in_default.in_default-own.rest in (let fact : (c.args.w ≡ 1 → ⊥) → (c.args.w ≡ 2 → ⊥) → (c.args.w ≡ 4 → ⊥) → c.args.w ≡ 8 = c.requires.0 in fact) r.0.0.1 r.0.1 r.1) c.requires
+    (c.requires.1, subst (λ w. c.args.at + c.args.n * w ≤ length c.args.body.now) (let r = c.in_default.in_default-own.rest in (let fact : (c.args.w ≡ 1 → ⊥) → (c.args.w ≡ 2 → ⊥) → (c.args.w ≡ 4 → ⊥) → c.args.w ≡ 8 = c.requires.0 in fact) r.0.0.1 r.0.1 r.1) c.requires.2)
 
 pub returns-in-1 : goal.returns-in-1
 returns-in-1 c =

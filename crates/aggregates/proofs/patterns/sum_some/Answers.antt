@@ -3,22 +3,6 @@ use Rattle.std.proofs.Common.{◌≡◌, ◌+◌, ◌*◌, ◌≤◌, length, sy
 use Rattle.aggregates.specs.patterns.Parts.{Sized, bit_of, kept_in, Added}
 use Rattle.aggregates.proofs.patterns.sum_some.Goals as goal
 
-pub add_some-requires : goal.add_some-requires
-add_some-requires c =
-    subst (λ w. Sized w × (c.args.at + 64 * w ≤ length c.args.body.now)) c.in-1.is c.requires
-
-pub add_some-requires-in-2 : goal.add_some-requires-in-2
-add_some-requires-in-2 c =
-    subst (λ w. Sized w × (c.args.at + 64 * w ≤ length c.args.body.now)) c.in-2.is c.requires
-
-pub add_some-requires-in-4 : goal.add_some-requires-in-4
-add_some-requires-in-4 c =
-    subst (λ w. Sized w × (c.args.at + 64 * w ≤ length c.args.body.now)) c.in-4.is c.requires
-
-pub add_some-requires-in_default : goal.add_some-requires-in_default
-add_some-requires-in_default c =
-    subst (λ w. Sized w × (c.args.at + 64 * w ≤ length c.args.body.now)) (let r = c.in_default.in_default-own.rest in (let fact : (c.args.w ≡ 1 → ⊥) → (c.args.w ≡ 2 → ⊥) → (c.args.w ≡ 4 → ⊥) → c.args.w ≡ 8 = c.requires.0 in fact) r.0.0.1 r.0.1 r.1) c.requires
-
 pub returns-in-1 : goal.returns-in-1
 returns-in-1 c =
     subst (λ w. Added (kept_in c.args.body.now c.args.at w c.args.m) (bit_of c.args.m) w 64 c.add_some.result) (sym c.in-1.is) c.add_some.ensures

@@ -29,7 +29,7 @@ returns-then-not-pairs_in c =
     view_foreign x a.depth a.w a.i a.slot a.n a.counters.now (add-one a.i) c.if-i-ge32.false (c.pairs_in.ensures a.plan.now a.parts.now a.lengths.now a.source) c.if-not-pairs_in.true-raw ∙ sym c.plain-then-not-pairs_in.ensures
 
 pub loop-r-init : goal.loop-r-init
-loop-r-init c = (omega arith, simp sub-zero refl)
+loop-r-init c = simp sub-zero refl
 
 pub list_row-requires : goal.list_row-requires
 list_row-requires c =
@@ -37,32 +37,26 @@ list_row-requires c =
     let x = join a.plan.now a.parts.now a.lengths.now a.places.now a.body.now a.first a.source in
     record { first_bound = (c.requires.first_bound.0, c.requires.first_bound.1, omega arith, omega arith); w_value = c.requires.w_value; fact = pairs_row x (place x a.i 3) (place x a.i 5) a.w a.w a.slot a.n c.loop-r.r (c.pairs_in.ensures a.plan.now a.parts.now a.lengths.now a.source) c.if-not-pairs_in.false-raw c.loop-r-test.true }
 
-pub overflow_add-r : goal.overflow_add-r
-overflow_add-r c = omega arith
-
-pub loop-r-smaller : goal.loop-r-smaller
-loop-r-smaller c = omega arith
-
 pub loop-r-preserved : goal.loop-r-preserved
 loop-r-preserved c =
     let a = c.args in
     let x = join a.plan.now a.parts.now a.lengths.now a.places.now a.body.now a.first a.source in
-    (omega arith, c.loop-r.invariant.1 ∙ row_on (list_view_row x (copy_walk x a.depth) a.w a.i a.slot) (why_list_row x (copy_walk x a.depth) (why_copy x a.depth) a.w a.i a.slot) x a.depth (a.n - c.loop-r.r) (a.n - (c.loop-r.r + 1)) c.loop-r.r c.loop-r.counters (omega arith) c.list_row.ensures refl c.in-On.is)
+    c.loop-r.invariant ∙ row_on (list_view_row x (copy_walk x a.depth) a.w a.i a.slot) (why_list_row x (copy_walk x a.depth) (why_copy x a.depth) a.w a.i a.slot) x a.depth (a.n - c.loop-r.r) (a.n - (c.loop-r.r + 1)) c.loop-r.r c.loop-r.counters (omega arith) c.list_row.ensures refl c.in-On.is
 
 pub returns-in-Here : goal.returns-in-Here
 returns-in-Here c =
     let a = c.args in
     let x = join a.plan.now a.parts.now a.lengths.now a.places.now a.body.now a.first a.source in
-    view_rows_lem x a.depth a.w a.i a.slot a.n a.counters.now (add-one a.i) c.if-i-ge32.false (c.pairs_in.ensures a.plan.now a.parts.now a.lengths.now a.source) c.if-not-pairs_in.false-raw ∙ c.loop-r.invariant.1 ∙ row_here (list_view_row x (copy_walk x a.depth) a.w a.i a.slot) (why_list_row x (copy_walk x a.depth) (why_copy x a.depth) a.w a.i a.slot) x a.depth (a.n - c.loop-r.r) (a.n - (c.loop-r.r + 1)) c.loop-r.r c.loop-r.counters (omega arith) c.list_row.ensures c.in-Here.is
+    view_rows_lem x a.depth a.w a.i a.slot a.n a.counters.now (add-one a.i) c.if-i-ge32.false (c.pairs_in.ensures a.plan.now a.parts.now a.lengths.now a.source) c.if-not-pairs_in.false-raw ∙ c.loop-r.invariant ∙ row_here (list_view_row x (copy_walk x a.depth) a.w a.i a.slot) (why_list_row x (copy_walk x a.depth) (why_copy x a.depth) a.w a.i a.slot) x a.depth (a.n - c.loop-r.r) (a.n - (c.loop-r.r + 1)) c.loop-r.r c.loop-r.counters (omega arith) c.list_row.ensures c.in-Here.is
 
 pub returns-in-Below : goal.returns-in-Below
 returns-in-Below c =
     let a = c.args in
     let x = join a.plan.now a.parts.now a.lengths.now a.places.now a.body.now a.first a.source in
-    view_rows_lem x a.depth a.w a.i a.slot a.n a.counters.now (add-one a.i) c.if-i-ge32.false (c.pairs_in.ensures a.plan.now a.parts.now a.lengths.now a.source) c.if-not-pairs_in.false-raw ∙ c.loop-r.invariant.1 ∙ row_below (list_view_row x (copy_walk x a.depth) a.w a.i a.slot) (why_list_row x (copy_walk x a.depth) (why_copy x a.depth) a.w a.i a.slot) x a.depth (a.n - c.loop-r.r) (a.n - (c.loop-r.r + 1)) c.loop-r.r c.loop-r.counters (omega arith) c.list_row.ensures c.in-Below.is
+    view_rows_lem x a.depth a.w a.i a.slot a.n a.counters.now (add-one a.i) c.if-i-ge32.false (c.pairs_in.ensures a.plan.now a.parts.now a.lengths.now a.source) c.if-not-pairs_in.false-raw ∙ c.loop-r.invariant ∙ row_below (list_view_row x (copy_walk x a.depth) a.w a.i a.slot) (why_list_row x (copy_walk x a.depth) (why_copy x a.depth) a.w a.i a.slot) x a.depth (a.n - c.loop-r.r) (a.n - (c.loop-r.r + 1)) c.loop-r.r c.loop-r.counters (omega arith) c.list_row.ensures c.in-Below.is
 
 pub returns : goal.returns
 returns c =
     let a = c.args in
     let x = join a.plan.now a.parts.now a.lengths.now a.places.now a.body.now a.first a.source in
-    view_rows_lem x a.depth a.w a.i a.slot a.n a.counters.now (add-one a.i) c.if-i-ge32.false (c.pairs_in.ensures a.plan.now a.parts.now a.lengths.now a.source) c.if-not-pairs_in.false-raw ∙ c.loop-r.invariant.1 ∙ first_none (list_view_row x (copy_walk x a.depth) a.w a.i a.slot) (why_list_row x (copy_walk x a.depth) (why_copy x a.depth) a.w a.i a.slot) (a.n - c.loop-r.r) c.loop-r.r c.loop-r.counters (omega arith)
+    view_rows_lem x a.depth a.w a.i a.slot a.n a.counters.now (add-one a.i) c.if-i-ge32.false (c.pairs_in.ensures a.plan.now a.parts.now a.lengths.now a.source) c.if-not-pairs_in.false-raw ∙ c.loop-r.invariant ∙ first_none (list_view_row x (copy_walk x a.depth) a.w a.i a.slot) (why_list_row x (copy_walk x a.depth) (why_copy x a.depth) a.w a.i a.slot) (a.n - c.loop-r.r) c.loop-r.r c.loop-r.counters (omega arith)

@@ -7,7 +7,4 @@ use Rattle.explain.specs.stops.Nulls.{why_null_fields, why_nulls}
 use Rattle.explain.proofs.nulls.step_sparse.Given as goal
 
 abbrev pub invariant-loop-t : goal.invariant-loop-t
-invariant-loop-t l = (l.t ≤ 32) × (why_null_fields (join l.plan l.parts [] [] [] 0 0) (null_walk (join l.plan l.parts [] [] [] 0 0) l.depth) (why_nulls (join l.plan l.parts [] [] [] 0 0) l.depth) l.n l.end 32 l.initial.k l.initial.counters ≡ why_null_fields (join l.plan l.parts [] [] [] 0 0) (null_walk (join l.plan l.parts [] [] [] 0 0) l.depth) (why_nulls (join l.plan l.parts [] [] [] 0 0) l.depth) l.n l.end (32 - l.t) l.k l.counters)
-
-abbrev pub decreases-loop-t : goal.decreases-loop-t
-decreases-loop-t l = 32 - l.t
+invariant-loop-t l = why_null_fields (join l.plan l.parts [] [] [] 0 0) (null_walk (join l.plan l.parts [] [] [] 0 0) l.depth) (why_nulls (join l.plan l.parts [] [] [] 0 0) l.depth) l.n l.end 32 l.initial.k l.initial.counters ≡ why_null_fields (join l.plan l.parts [] [] [] 0 0) (null_walk (join l.plan l.parts [] [] [] 0 0) l.depth) (why_nulls (join l.plan l.parts [] [] [] 0 0) l.depth) l.n l.end (32 - l.t) l.k l.counters

@@ -22,7 +22,7 @@ returns-then-not-pairs_in c =
     dense_foreign x a.depth a.i a.slot a.n a.counters.now (c.pairs_in.ensures a.plan.now a.parts.now a.lengths.now a.source) c.if-not-pairs_in.true-raw ∙ sym c.plain.ensures
 
 pub loop-r-init : goal.loop-r-init
-loop-r-init c = (omega arith, simp sub-zero refl)
+loop-r-init c = simp sub-zero refl
 
 pub dense_row-requires : goal.dense_row-requires
 dense_row-requires c =
@@ -30,32 +30,26 @@ dense_row-requires c =
     let x = join a.plan.now a.parts.now a.lengths.now a.places.now a.body.now a.first a.source in
     let b = pairs_row x (place x a.i 3) (place x a.i 5) 1 4 a.slot a.n c.loop-r.r (c.pairs_in.ensures a.plan.now a.parts.now a.lengths.now a.source) c.if-not-pairs_in.false-raw c.loop-r-test.true in record { first_bound = (c.requires.0, c.requires.1, c.requires.2, omega arith); fact = (omega (arith, b.0), b.1) }
 
-pub overflow_add-r : goal.overflow_add-r
-overflow_add-r c = omega arith
-
-pub loop-r-smaller : goal.loop-r-smaller
-loop-r-smaller c = omega arith
-
 pub loop-r-preserved : goal.loop-r-preserved
 loop-r-preserved c =
     let a = c.args in
     let x = join a.plan.now a.parts.now a.lengths.now a.places.now a.body.now a.first a.source in
-    (omega arith, c.loop-r.invariant.1 ∙ row_on (dense_row x (copy_walk x a.depth) a.i a.slot) (why_dense_row x (copy_walk x a.depth) (why_copy x a.depth) a.i a.slot) x a.depth (a.n - c.loop-r.r) (a.n - (c.loop-r.r + 1)) c.loop-r.r c.loop-r.counters (omega arith) c.dense_row.ensures refl c.in-On.is)
+    c.loop-r.invariant ∙ row_on (dense_row x (copy_walk x a.depth) a.i a.slot) (why_dense_row x (copy_walk x a.depth) (why_copy x a.depth) a.i a.slot) x a.depth (a.n - c.loop-r.r) (a.n - (c.loop-r.r + 1)) c.loop-r.r c.loop-r.counters (omega arith) c.dense_row.ensures refl c.in-On.is
 
 pub returns-in-Here : goal.returns-in-Here
 returns-in-Here c =
     let a = c.args in
     let x = join a.plan.now a.parts.now a.lengths.now a.places.now a.body.now a.first a.source in
-    dense_rows_lem x a.depth a.i a.slot a.n a.counters.now (c.pairs_in.ensures a.plan.now a.parts.now a.lengths.now a.source) c.if-not-pairs_in.false-raw ∙ c.loop-r.invariant.1 ∙ row_here (dense_row x (copy_walk x a.depth) a.i a.slot) (why_dense_row x (copy_walk x a.depth) (why_copy x a.depth) a.i a.slot) x a.depth (a.n - c.loop-r.r) (a.n - (c.loop-r.r + 1)) c.loop-r.r c.loop-r.counters (omega arith) c.dense_row.ensures c.in-Here.is
+    dense_rows_lem x a.depth a.i a.slot a.n a.counters.now (c.pairs_in.ensures a.plan.now a.parts.now a.lengths.now a.source) c.if-not-pairs_in.false-raw ∙ c.loop-r.invariant ∙ row_here (dense_row x (copy_walk x a.depth) a.i a.slot) (why_dense_row x (copy_walk x a.depth) (why_copy x a.depth) a.i a.slot) x a.depth (a.n - c.loop-r.r) (a.n - (c.loop-r.r + 1)) c.loop-r.r c.loop-r.counters (omega arith) c.dense_row.ensures c.in-Here.is
 
 pub returns-in-Below : goal.returns-in-Below
 returns-in-Below c =
     let a = c.args in
     let x = join a.plan.now a.parts.now a.lengths.now a.places.now a.body.now a.first a.source in
-    dense_rows_lem x a.depth a.i a.slot a.n a.counters.now (c.pairs_in.ensures a.plan.now a.parts.now a.lengths.now a.source) c.if-not-pairs_in.false-raw ∙ c.loop-r.invariant.1 ∙ row_below (dense_row x (copy_walk x a.depth) a.i a.slot) (why_dense_row x (copy_walk x a.depth) (why_copy x a.depth) a.i a.slot) x a.depth (a.n - c.loop-r.r) (a.n - (c.loop-r.r + 1)) c.loop-r.r c.loop-r.counters (omega arith) c.dense_row.ensures c.in-Below.is
+    dense_rows_lem x a.depth a.i a.slot a.n a.counters.now (c.pairs_in.ensures a.plan.now a.parts.now a.lengths.now a.source) c.if-not-pairs_in.false-raw ∙ c.loop-r.invariant ∙ row_below (dense_row x (copy_walk x a.depth) a.i a.slot) (why_dense_row x (copy_walk x a.depth) (why_copy x a.depth) a.i a.slot) x a.depth (a.n - c.loop-r.r) (a.n - (c.loop-r.r + 1)) c.loop-r.r c.loop-r.counters (omega arith) c.dense_row.ensures c.in-Below.is
 
 pub returns : goal.returns
 returns c =
     let a = c.args in
     let x = join a.plan.now a.parts.now a.lengths.now a.places.now a.body.now a.first a.source in
-    dense_rows_lem x a.depth a.i a.slot a.n a.counters.now (c.pairs_in.ensures a.plan.now a.parts.now a.lengths.now a.source) c.if-not-pairs_in.false-raw ∙ c.loop-r.invariant.1 ∙ first_none (dense_row x (copy_walk x a.depth) a.i a.slot) (why_dense_row x (copy_walk x a.depth) (why_copy x a.depth) a.i a.slot) (a.n - c.loop-r.r) c.loop-r.r c.loop-r.counters (omega arith)
+    dense_rows_lem x a.depth a.i a.slot a.n a.counters.now (c.pairs_in.ensures a.plan.now a.parts.now a.lengths.now a.source) c.if-not-pairs_in.false-raw ∙ c.loop-r.invariant ∙ first_none (dense_row x (copy_walk x a.depth) a.i a.slot) (why_dense_row x (copy_walk x a.depth) (why_copy x a.depth) a.i a.slot) (a.n - c.loop-r.r) c.loop-r.r c.loop-r.counters (omega arith)
