@@ -1,6 +1,6 @@
 -- The walk of a copy: a node hands rows to its children, whose walk does the same one level down. Assumes nothing.
 -- Follows arrow-data 60.1.0 src/transform/mod.rs, list.rs, list_view.rs, union.rs and run.rs, Apache-2.0; see NOTICE.
-use Rattle.std.specs.Prelude.{Bool, true, false, cond, ◌&&◌, ◌||◌, List, [], ◌∷◌, ℕ, zero, suc, ◌+◌, ◌*◌, ◌-◌, length, take, drop, get_or, leb, ltb, eqb}
+use Rattle.std.specs.Prelude.{Bool, cond, ◌&&◌, ◌||◌, List, [], ◌∷◌, ℕ, zero, suc, ◌+◌, ◌*◌, ◌-◌, take, drop, get_or, ltb, eqb}
 use Rattle.number.specs.Number.{entry, encode}
 use Rattle.columnar.specs.Types.{half}
 use Rattle.schema.specs.formats.Code.{is_fixed, is_string, is_view, is_list_view, is_list, is_sparse, is_dense}
