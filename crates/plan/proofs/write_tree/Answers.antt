@@ -8,7 +8,7 @@ use Rattle.plan.proofs.Laws.{filled_none, filled_more, filled_all}
 use Rattle.plan.proofs.write_tree.Goals as goal
 
 pub loop-q-init : goal.loop-q-init
-loop-q-init c = (omega arith, filled_none (λ k. k) (λ s k. get_or c.args.tree.now k 0) (replicate 872 0))
+loop-q-init c = filled_none (λ k. k) (λ s k. get_or c.args.tree.now k 0) (replicate 872 0)
 
 pub offset_bounds-tree-q : goal.offset_bounds-tree-q
 offset_bounds-tree-q c = omega arith
@@ -22,19 +22,13 @@ offset_bounds-plan-q c = omega arith
 pub bounds-plan-q : goal.bounds-plan-q
 bounds-plan-q c = omega arith
 
-pub overflow_add-q : goal.overflow_add-q
-overflow_add-q c = omega arith
-
-pub loop-q-smaller : goal.loop-q-smaller
-loop-q-smaller c = omega arith
-
 pub loop-q-preserved : goal.loop-q-preserved
 loop-q-preserved c =
     let l = c.loop-q in
-    (omega arith, filled_more (λ k. k) (λ s k. get_or c.args.tree.now k 0) l.q (replicate 872 0) l.plan l.invariant.1 refl)
+    filled_more (λ k. k) (λ s k. get_or c.args.tree.now k 0) l.q (replicate 872 0) l.plan l.invariant refl
 
 pub returns : goal.returns
 unfolding with_tree
 returns c =
     let l = c.loop-q in
-    filled_all (λ k. k) (λ s k. get_or c.args.tree.now k 0) l.q 256 (replicate 872 0) l.plan (omega arith) l.invariant.1
+    filled_all (λ k. k) (λ s k. get_or c.args.tree.now k 0) l.q 256 (replicate 872 0) l.plan (omega arith) l.invariant

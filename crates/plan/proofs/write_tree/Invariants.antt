@@ -5,7 +5,4 @@ use Rattle.plan.specs.Plan.{filled}
 use Rattle.plan.proofs.write_tree.Given as goal
 
 abbrev pub invariant-loop-q : goal.invariant-loop-q
-invariant-loop-q l = (l.q ≤ 256) × (l.plan ≡ filled (λ k. k) (λ s k. get_or l.tree k 0) l.q (replicate 872 0))
-
-abbrev pub decreases-loop-q : goal.decreases-loop-q
-decreases-loop-q l = 256 - l.q
+invariant-loop-q l = l.plan ≡ filled (λ k. k) (λ s k. get_or l.tree k 0) l.q (replicate 872 0)
