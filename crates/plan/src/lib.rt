@@ -27,9 +27,7 @@ fn write_tree(tree: &[u64; 256], plan: &mut [u64; plan_words::WORDS])
     ensures { plan.new ≡ with_tree (was tree) }
 {
     *plan = [0u64; plan_words::WORDS];
-    for q in 0..256 {
-        plan[q] = tree[q];
-    }
+    plan[..256].copy_from_slice(tree);
 }
 
 // ---- which nodes keep nulls
