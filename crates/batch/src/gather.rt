@@ -125,12 +125,12 @@ pub fn put_taken(
         o,
         plan_words::scale(total, w),
     ) {
-        plan_words::Goal::At(to) => {
+        Some(to) => {
             let offset = lookups::slot_of(lengths, first, k, 0, 0);
             let at = lent_tables::place(places, first + k, 3) + w * offset;
             copy_taken(room, to, body, at, w, homes, ids, positions, slot, n, k);
             true
         }
-        plan_words::Goal::Skip => false,
+        None => false,
     }
 }

@@ -118,12 +118,12 @@ pub fn put_listed(
         o,
         plan_words::scale(total, v),
     ) {
-        plan_words::Goal::At(to) => {
+        Some(to) => {
             let offset = lookups::slot_of(lengths, first, k, 0, 0);
             let at = lent_tables::place(places, first + k, 3) + v * offset;
             copy_listed(room, to, body, at, v, offsets, sizes, w, slot, n);
             true
         }
-        plan_words::Goal::Skip => false,
+        None => false,
     }
 }

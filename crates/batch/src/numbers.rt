@@ -55,9 +55,8 @@ fn put_few(
     requires { (k < 32) × (from + n ≤ length body.now) }
     ensures { room.new ≡ apply_if (was plan) (was parts) write (put k 1 o (take n (drop from (was body))) ∷ []) room.old }
 {
-    match plan_words::target(plan, parts, room.len(), write, k, 1, o, n) {
-        plan_words::Goal::At(at) => copy_few(room, at, body, from, n as usize),
-        plan_words::Goal::Skip => {}
+    if let Some(at) = plan_words::target(plan, parts, room.len(), write, k, 1, o, n) {
+        copy_few(room, at, body, from, n as usize);
     }
 }
 

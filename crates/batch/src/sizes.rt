@@ -125,7 +125,7 @@ pub fn put_sums(
     requires w_value { (w ≡ 4 → ⊥) → w ≡ 8 }
     ensures { room.new ≡ apply_if (was plan) (was parts) write (put i 1 o (numbers w (λ r. rows + sum_of (λ q. entry w (was body) at (slot + q)) r) n) ∷ []) room.old }
 {
-    match plan_words::target(
+    if let Some(to) = plan_words::target(
         plan,
         parts,
         room.len(),
@@ -135,8 +135,7 @@ pub fn put_sums(
         o,
         plan_words::scale(n, w),
     ) {
-        plan_words::Goal::At(to) => write_sums(room, to, w, body, at, slot, n, rows),
-        plan_words::Goal::Skip => {}
+        write_sums(room, to, w, body, at, slot, n, rows);
     }
 }
 

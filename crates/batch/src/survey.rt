@@ -130,7 +130,7 @@ pub fn put_lands(
     requires { (i < 32) × (ids + (slot + n) ≤ length body.now) × (slot + n < 2 ^ 63) × (all_land (λ r. home_by homes.now body.now (ids + (slot + r))) counters.now n ≡ true) }
     ensures { room.new ≡ apply_if (was plan) (was parts) write (put i 2 o (numbers 4 (lands_by (λ r. home_by (was homes) (was body) (ids + (slot + r))) (was counters)) n) ∷ []) room.old }
 {
-    match plan_words::target(
+    if let Some(to) = plan_words::target(
         plan,
         parts,
         room.len(),
@@ -140,7 +140,6 @@ pub fn put_lands(
         o,
         plan_words::scale(n, 4),
     ) {
-        plan_words::Goal::At(to) => write_lands(room, to, homes, counters, body, ids, slot, n),
-        plan_words::Goal::Skip => {}
+        write_lands(room, to, homes, counters, body, ids, slot, n);
     }
 }

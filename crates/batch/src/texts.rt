@@ -43,9 +43,8 @@ pub fn put_chars(
     requires { (k < 32) × (from + n ≤ length body.now) }
     ensures { room.new ≡ apply_if (was plan) (was parts) write (put k 2 o (take n (drop from (was body))) ∷ []) room.old }
 {
-    match plan_words::target(plan, parts, room.len(), write, k, 2, o, n) {
-        plan_words::Goal::At(at) => short_copy::copy_short(room, at, body, from, n as usize),
-        plan_words::Goal::Skip => {}
+    if let Some(at) = plan_words::target(plan, parts, room.len(), write, k, 2, o, n) {
+        short_copy::copy_short(room, at, body, from, n as usize);
     }
 }
 

@@ -151,8 +151,8 @@ fn put_rows_at(
     let size = plan_words::scale(n, w);
     let from = lent_tables::place(places, first as usize, 3) + w * slot;
     match plan_words::target(plan, parts, room.len(), true, 0, 2, 0, size) {
-        plan_words::Goal::At(too) => lay_rows(room, at, too, body, from as usize, w, n as usize),
-        plan_words::Goal::Skip => put_row_by_row(
+        Some(too) => lay_rows(room, at, too, body, from as usize, w, n as usize),
+        None => put_row_by_row(
             plan, parts, lengths, places, body, counters, room, first, w, slot, n,
         ),
     }
@@ -178,10 +178,10 @@ fn put_rows(
 {
     let size = plan_words::scale(n, w);
     match plan_words::target(plan, parts, room.len(), true, 0, 1, 0, size) {
-        plan_words::Goal::At(at) => put_rows_at(
+        Some(at) => put_rows_at(
             plan, parts, lengths, places, body, counters, room, first, w, slot, n, at,
         ),
-        plan_words::Goal::Skip => put_row_by_row(
+        None => put_row_by_row(
             plan, parts, lengths, places, body, counters, room, first, w, slot, n,
         ),
     }

@@ -87,8 +87,7 @@ pub fn extend_list_view(
     if !nested_rows::pairs_in(places, body, first, i, w, w, slot, n) {
         return 12;
     }
-    let mut r: u64 = 0;
-    while r < n {
+    for r in 0..n {
         let g = extend_list_row(
             plan, parts, lengths, places, body, counters, room, write, source, first, i, w, slot,
             r, depth,
@@ -96,7 +95,6 @@ pub fn extend_list_view(
         if g != 0 {
             return g;
         }
-        r += 1;
     }
     0
 }

@@ -60,8 +60,7 @@ pub fn extend_sparse(
     }
     let end = plan_words::end_of(plan, i);
     let mut k = i + 1;
-    let mut t: usize = 0;
-    while t < 32 {
+    for _t in 0..32usize {
         if end <= k {
             return 0;
         }
@@ -73,7 +72,6 @@ pub fn extend_sparse(
             return g;
         }
         k = plan_words::end_of(plan, k);
-        t += 1;
     }
     0
 }
@@ -141,8 +139,7 @@ pub fn extend_dense(
     if !nested_rows::pairs_in(places, body, first, i, 1, 4, slot, n) {
         return 12;
     }
-    let mut r: u64 = 0;
-    while r < n {
+    for r in 0..n {
         let g = extend_dense_row(
             plan, parts, lengths, places, body, counters, room, write, source, first, i, slot, r,
             depth,
@@ -150,7 +147,6 @@ pub fn extend_dense(
         if g != 0 {
             return g;
         }
-        r += 1;
     }
     0
 }
@@ -180,8 +176,7 @@ pub fn extend_nulls_sparse(
     }
     let end = plan_words::end_of(plan, i);
     let mut k = i + 1;
-    let mut t: usize = 0;
-    while t < 32 {
+    for _t in 0..32usize {
         if end <= k {
             return 0;
         }
@@ -190,7 +185,6 @@ pub fn extend_nulls_sparse(
             return g;
         }
         k = plan_words::end_of(plan, k);
-        t += 1;
     }
     0
 }

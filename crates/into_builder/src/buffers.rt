@@ -44,10 +44,8 @@ pub fn count_before(plan: &[u64], sources: &[u32], places: &[u64], n: usize) -> 
     ensures upper_bound { result ≤ 16896 }
 {
     let mut sum: u64 = 0;
-    let mut i = 0;
-    while i < n {
+    for i in 0..n {
         sum += count_at(plan, sources, places, i);
-        i += 1;
     }
     sum
 }
@@ -59,10 +57,8 @@ fn copy_names(buffers: &[u64], from: u64, n: usize, names: &mut [u64], at: usize
     requires { at + n ≤ length names.old }
     ensures { Behind names.old names.new at n (seg (λ q. get_or (was buffers) q 0) (2 * from) n) }
 {
-    let mut q = 0;
-    while q < n {
+    for q in 0..n {
         names[at + q] = lent_tables::pair_at(buffers, from, (q / 2) as u64, q % 2);
-        q += 1;
     }
 }
 
@@ -81,14 +77,12 @@ fn view_names(
 {
     let m = source_count(plan);
     let mut end = at;
-    let mut s = 0;
-    while s < m {
+    for s in 0..m {
         let k = dictionaries::node_of(sources, s, i);
         let from = lent_tables::place(places, k, 7);
         let n = plan::buffers_of(places, k) as usize;
         copy_names(buffers, from, 2 * n, names, end);
         end += 2 * n;
-        s += 1;
     }
 }
 
@@ -123,10 +117,8 @@ pub fn write_buffers(
 {
     let n = plan::parts::node_count(plan);
     let mut at = 0;
-    let mut i = 0;
-    while i < n {
+    for i in 0..n {
         node_names(plan, sources, places, buffers, i, names, at);
         at += 2 * (count_at(plan, sources, places, i) as usize);
-        i += 1;
     }
 }

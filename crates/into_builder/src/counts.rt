@@ -62,10 +62,8 @@ pub fn write_lengths(
     ensures { table.new ≡ length_table (lent (was plan) [] (was sources) (was lengths) [] []) [] (was counters) [] 0 }
 {
     let n = 2 * plan::parts::node_count(plan);
-    let mut q = 0;
-    while q < n {
+    for q in 0..n {
         table[q] = length_word(plan, sources, lengths, counters, q);
-        q += 1;
     }
 }
 
@@ -108,12 +106,10 @@ pub fn all_kept(plan: &[u64], sources: &[u32], lengths: &[u64], places: &[u64], 
     ensures { result ≡ all_kept (was plan) (was sources) (was lengths) (was places) (was body) }
 {
     let n = plan::parts::node_count(plan);
-    let mut i = 0;
-    while i < n {
+    for i in 0..n {
         if !kept_in(plan, sources, lengths, places, body, i) {
             return false;
         }
-        i += 1;
     }
     true
 }
@@ -177,11 +173,9 @@ pub fn write_nulls(
     ensures { table.new ≡ null_table (lent_all plan parts sources lengths places body) [] (was counters) (was room) 0 }
 {
     let n = plan::parts::node_count(plan);
-    let mut i = 0;
-    while i < n {
+    for i in 0..n {
         table[i] = nulls_at(
             plan, parts, sources, lengths, places, body, counters, room, i,
         );
-        i += 1;
     }
 }

@@ -42,10 +42,8 @@ fn load(counters: &[u64]) -> [u64; plan_words::COUNTERS]
     ensures { result ≡ was counters }
 {
     let mut tally = [0u64; plan_words::COUNTERS];
-    let mut i = 0;
-    while i < plan_words::COUNTERS {
+    for i in 0..plan_words::COUNTERS {
         tally[i] = counters[i];
-        i += 1;
     }
     tally
 }

@@ -214,8 +214,7 @@ pub fn write_places(
     ensures { AnyBody plan parts sources places (λ l buffers room. was nulls ≡ null_table l [] (was counters) room 0 → table.new ≡ place_table l buffers (was counters) room base) }
 {
     let n = 9 * plan::parts::node_count(plan);
-    let mut q = 0;
-    while q < n {
+    for q in 0..n {
         table[q] = place_at(
             plan,
             parts,
@@ -227,6 +226,5 @@ pub fn write_places(
             q / 9,
             q % 9,
         );
-        q += 1;
     }
 }

@@ -53,8 +53,7 @@ pub fn child_with(plan: &[u64], id: u8, end: usize, from: usize) -> usize
     ensures upper_bound { result ≤ 32 }
 {
     let mut k = from;
-    let mut t: usize = 0;
-    while t < 32 {
+    for _t in 0..32usize {
         if end <= k {
             return 32;
         }
@@ -62,7 +61,6 @@ pub fn child_with(plan: &[u64], id: u8, end: usize, from: usize) -> usize
             return k;
         }
         k = plan_words::end_of(plan, k);
-        t += 1;
     }
     32
 }
@@ -74,8 +72,7 @@ pub fn nullable_child(plan: &[u64], end: usize, from: usize) -> usize
     ensures upper_bound { result ≤ 32 }
 {
     let mut k = from;
-    let mut t: usize = 0;
-    while t < 32 {
+    for _t in 0..32usize {
         if end <= k {
             return 32;
         }
@@ -83,7 +80,6 @@ pub fn nullable_child(plan: &[u64], end: usize, from: usize) -> usize
             return k;
         }
         k = plan_words::end_of(plan, k);
-        t += 1;
     }
     32
 }

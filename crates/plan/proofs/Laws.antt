@@ -2,6 +2,7 @@
 use mathlib.Core.Path.{◌≡◌, refl, ap, ap₂, ◌∙◌}
 use mathlib.Core.Bool.{Bool, true, false, not}
 use mathlib.Core.List.{List}
+use mir.Val.{bool_byte}
 use Prim.Native.Nat.{ℕ, suc, ◌+◌, ◌*◌, ◌-◌, ◌≤◌, ◌<◌, min}
 use native.Mathlib.Numerals.{add-one}
 use lib.ListN.{get_or, set}
@@ -149,9 +150,7 @@ module _ (formats schema lengths places body sources : List ℕ) (keep : Bool) w
   unfolding planned
   planned_by gaps p q = rw (p, q)
 
--- a choice as a word
-pub word_on : (gaps : Bool) → gaps ≡ true → 1 ≡ flag gaps
-word_on gaps e = rw e
-
-pub word_off : (gaps : Bool) → gaps ≡ false → 0 ≡ flag gaps
-word_off gaps e = rw e
+-- a bool as a word
+pub byte_flag : (b : Bool) → bool_byte b ≡ flag b
+byte_flag true = refl
+byte_flag false = refl

@@ -56,13 +56,11 @@ pub fn any_null(
     requires { (m < 2 ^ 32) × (i < 2 ^ 32) × ((s : ℕ) → s < m → Countable (tables lengths.now places.now body.now) (first_of sources.now s + i)) }
     ensures { result ≡ keeps false m (array_at (tables (was lengths) (was places) (was body)) (was sources) i) }
 {
-    let mut s = 0;
-    while s < m {
+    for s in 0..m {
         let k = node_of(sources, s, i);
         if null_count(lengths, places, body, k) != 0 {
             return true;
         }
-        s += 1;
     }
     false
 }
@@ -171,14 +169,12 @@ pub fn all_share(
     requires { (m < 2 ^ 32) × (i < 2 ^ 32) }
     ensures { result ≡ shared m (dict_at (tables (was lengths) (was places) (was body)) (was sources) string i) }
 {
-    let mut s = 0;
-    while s + 1 < m {
-        let a = node_of(sources, s, i);
-        let b = node_of(sources, s + 1, i);
+    for s in 1..m {
+        let a = node_of(sources, s - 1, i);
+        let b = node_of(sources, s, i);
         if !ptr_eq(lengths, places, body, a, b, string) {
             return false;
         }
-        s += 1;
     }
     true
 }
@@ -189,10 +185,7 @@ pub fn all_share(
 fn add_capped(a: u64, b: u64) -> u64
     ensures { result ≡ capped (a + b) }
 {
-    if 18446744073709551615 - a < b {
-        return 18446744073709551615;
-    }
-    a + b
+    a.saturating_add(b)
 }
 
 // How many entries the dictionaries of the sources before source j have, or the largest number of 64 bits where there are more.
@@ -202,11 +195,9 @@ pub fn entries_before(sources: &[u32], lengths: &[u64], i: usize, j: usize) -> u
     ensures { (places body : List ℕ) (string : Bool) → result ≡ capped (entries_before (dict_at (tables (was lengths) places body) (was sources) string i) j) }
 {
     let mut sum: u64 = 0;
-    let mut s = 0;
-    while s < j {
+    for s in 0..j {
         let k = node_of(sources, s, i);
         sum = add_capped(sum, lent_tables::length_of(lengths, k));
-        s += 1;
     }
     sum
 }

@@ -94,12 +94,10 @@ pub fn all_fine(plan: &[u64], counters: &[u64], parts: &[u64], m: usize) -> bool
     ensures { result ≡ true → 0 ≡ verdict (parts_within (was plan) (was parts) m) (parts_hold (was plan) (was counters) (was parts)) }
 {
     let n = crate::parts::node_count(plan);
-    let mut i = 0;
-    while i < n {
+    for i in 0..n {
         if !node_fine(plan, counters, parts, m, i) {
             return false;
         }
-        i += 1;
     }
     true
 }

@@ -12,10 +12,7 @@ use walk::plan_words;
 fn worse(a: u8, b: u8) -> u8
     ensures { result ≡ worse_of a b }
 {
-    if a < b {
-        return b;
-    }
-    a
+    a.max(b)
 }
 
 // 14 where part p is not in the table or not in the room, and else 13 where it does not hold its bytes.
@@ -107,10 +104,8 @@ pub fn parts_ground(plan: &[u64], counters: &[u64], parts: &[u64], m: usize) -> 
     }
     let n = crate::parts::node_count(plan);
     let mut g: u8 = 0;
-    let mut i = 0;
-    while i < n {
+    for i in 0..n {
         g = worse(g, node_ground(plan, counters, parts, m, i));
-        i += 1;
     }
     g
 }

@@ -27,11 +27,7 @@ fn write_tree(tree: &[u64; 256], plan: &mut [u64; plan_words::WORDS])
     ensures { plan.new ≡ with_tree (was tree) }
 {
     *plan = [0u64; plan_words::WORDS];
-    let mut q = 0;
-    while q < 256 {
-        plan[q] = tree[q];
-        q += 1;
-    }
+    plan[..256].copy_from_slice(tree);
 }
 
 // ---- which nodes keep nulls
@@ -42,9 +38,7 @@ fn parent_of(plan: &[u64; plan_words::WORDS], i: usize) -> usize
     ensures value { result ≡ parent_of (was plan) i }
     ensures upper_bound { result < 32 }
 {
-    let mut p = i;
-    while 0 < p {
-        p -= 1;
+    for p in (0..i).rev() {
         if i < plan_words::end_of(plan, p) {
             return p;
         }
@@ -95,10 +89,7 @@ fn keep_word(
         return 0;
     }
     let above = is_asked(plan, keep, i);
-    if dictionaries::keeps(above, sources, lengths, places, body, m, i) {
-        return 1;
-    }
-    0
+    dictionaries::keeps(above, sources, lengths, places, body, m, i) as u64
 }
 
 // Which of the first n nodes keep nulls.
@@ -115,10 +106,8 @@ fn write_keeps(
     requires { (m ≤ 16) × (n ≤ 32) × ((s i : ℕ) → s < m → i < n → Countable (tables lengths.now places.now body.now) (first_of sources.now s + i)) }
     ensures { plan.new ≡ with_keeps (tables (was lengths) (was places) (was body)) (was sources) m keep n plan.old }
 {
-    let mut i = 0;
-    while i < n {
+    for i in 0..n {
         plan[8 * i + 5] = keep_word(sources, lengths, places, body, m, keep, plan, i);
-        i += 1;
     }
 }
 
@@ -150,10 +139,7 @@ fn joined_word(
         return 0;
     }
     let string = has_strings(plan, i);
-    if dictionaries::all_share(sources, lengths, places, body, m, i + 1, string) {
-        return 0;
-    }
-    1
+    !dictionaries::all_share(sources, lengths, places, body, m, i + 1, string) as u64
 }
 
 // Which of the first n nodes have dictionaries that are joined.
@@ -169,10 +155,8 @@ fn write_joined(
     requires { (m ≤ 16) × (n ≤ 32) }
     ensures { plan.new ≡ with_joined (tables (was lengths) (was places) (was body)) (was sources) m n plan.old }
 {
-    let mut i = 0;
-    while i < n {
+    for i in 0..n {
         plan[8 * i + 7] = joined_word(sources, lengths, places, body, m, plan, i);
-        i += 1;
     }
 }
 
@@ -184,11 +168,7 @@ pub fn buffers_of(places: &[u64], k: usize) -> u64
     ensures value { result ≡ min (get_or (was places) (9 * k + 8) 0) 33 }
     ensures upper_bound { result ≤ 33 }
 {
-    let count = lent_tables::place(places, k, 8);
-    if count < 33 {
-        return count;
-    }
-    33
+    lent_tables::place(places, k, 8).min(33)
 }
 
 // How many data buffers the sources before source s have at node i.
@@ -198,11 +178,9 @@ pub fn buffers_up_to(sources: &[u32], places: &[u64], i: usize, s: usize) -> u64
     ensures upper_bound { result ≤ 33 * s }
 {
     let mut sum: u64 = 0;
-    let mut t = 0;
-    while t < s {
+    for t in 0..s {
         let k = dictionaries::node_of(sources, t, i);
         sum += buffers_of(places, k);
-        t += 1;
     }
     sum
 }
@@ -243,8 +221,7 @@ fn write_bases(
     requires { m ≤ 16 }
     ensures { plan.new ≡ with_bases (tables (was lengths) (was places) (was body)) (was sources) m plan.old }
 {
-    let mut q = 0;
-    while q < 32 * m {
+    for q in 0..32 * m {
         plan[plan_words::BASES + q] = base_word(
             sources,
             lengths,
@@ -255,7 +232,6 @@ fn write_bases(
             q / 32,
             q % 32,
         );
-        q += 1;
     }
 }
 
@@ -266,10 +242,8 @@ pub fn write_parts(n: usize, plan: &mut [u64; plan_words::WORDS])
     requires { n ≤ 32 }
     ensures { plan.new ≡ with_parts n plan.old }
 {
-    let mut i = 0;
-    while i < n {
+    for i in 0..n {
         plan[8 * i + 6] = crate::parts::part_word(plan, i);
-        i += 1;
     }
 }
 
@@ -321,10 +295,7 @@ fn lay_out(
 fn choice_word(gaps: bool) -> u64
     ensures { result ≡ flag gaps }
 {
-    if gaps {
-        return 1;
-    }
-    0
+    gaps as u64
 }
 
 // THE STATE AS IT IS PLANNED for sources that meet none of the grounds 9 to 12.

@@ -48,11 +48,7 @@ pub fn node_count(plan: &[u64]) -> usize
     ensures value { result ≡ nodes_of (was plan) }
     ensures upper_bound { result ≤ 32 }
 {
-    let n = lent_tables::at_u64(plan, plan_words::NODE_COUNT);
-    if 32 < n {
-        return 32;
-    }
-    n as usize
+    lent_tables::at_u64(plan, plan_words::NODE_COUNT).min(32) as usize
 }
 
 // How many buffers of a type have a part.
@@ -89,11 +85,7 @@ fn validity_parts(plan: &[u64], i: usize) -> usize
     if plan_words::keeps_of(plan, i) == 0 {
         return 0;
     }
-    if plan_words::code_of(plan, i) < 21 {
-        1
-    } else {
-        0
-    }
+    (plan_words::code_of(plan, i) < 21) as usize
 }
 
 // How many buffers of node i have a part.
@@ -135,10 +127,8 @@ pub fn parts_before(plan: &[u64], i: usize) -> usize
     ensures upper_bound { result ≤ 96 }
 {
     let mut sum: usize = 0;
-    let mut k = 0;
-    while k < i {
+    for k in 0..i {
         sum += part_count(plan, k);
-        k += 1;
     }
     sum
 }
@@ -165,8 +155,7 @@ pub fn part_at(plan: &[u64], p: usize) -> Spot
 {
     let n = node_count(plan);
     let mut left = p;
-    let mut i = 0;
-    while i < n {
+    for i in 0..n {
         let count = part_count(plan, i);
         if left < count {
             return Spot::Of {
@@ -175,7 +164,6 @@ pub fn part_at(plan: &[u64], p: usize) -> Spot
             };
         }
         left -= count;
-        i += 1;
     }
     Spot::Nothing
 }
@@ -186,11 +174,7 @@ pub fn number_of(plan: &[u64], i: usize, b: usize) -> usize
     ensures value { result ≡ number_of (was plan) i b }
     ensures upper_bound { result < 4294967298 }
 {
-    let p = plan_words::part_of(plan, i) + b;
-    if p == 0 {
-        return 0;
-    }
-    p - 1
+    (plan_words::part_of(plan, i) + b).saturating_sub(1)
 }
 
 // The bytes of an entry of the first buffer.
@@ -308,12 +292,10 @@ pub fn nodes_hold(
     requires { n ≤ 32 }
     ensures { result ≡ every (λ i. every (λ b. part_holds (was plan) (was counters) (was parts) i b) 3) n }
 {
-    let mut i = 0;
-    while i < n {
+    for i in 0..n {
         if !node_holds(plan, counters, parts, i) {
             return false;
         }
-        i += 1;
     }
     true
 }
@@ -356,12 +338,10 @@ pub fn parts_within(plan: &[u64], parts: &[u64], m: usize) -> bool
     ensures { result ≡ parts_within (was plan) (was parts) m }
 {
     let n = node_count(plan);
-    let mut i = 0;
-    while i < n {
+    for i in 0..n {
         if !node_within(plan, parts, m, i) {
             return false;
         }
-        i += 1;
     }
     true
 }

@@ -38,12 +38,10 @@ fn is_apart(parts: &[u64], p: usize) -> bool
     requires { p < 96 }
     ensures { result ≡ every (λ q. apart (was parts) p q) p }
 {
-    let mut q = 0;
-    while q < p {
+    for q in 0..p {
         if !are_apart(parts, p, q) {
             return false;
         }
-        q += 1;
     }
     true
 }
@@ -53,12 +51,10 @@ fn all_in_room(parts: &[u64], m: usize, count: usize) -> bool
     requires { count ≤ 96 }
     ensures { result ≡ every (in_room (was parts) m) count }
 {
-    let mut p = 0;
-    while p < count {
+    for p in 0..count {
         if !in_room(parts, m, p) {
             return false;
         }
-        p += 1;
     }
     true
 }
@@ -68,12 +64,10 @@ fn all_apart(parts: &[u64], count: usize) -> bool
     requires { count ≤ 96 }
     ensures { result ≡ every (λ p. every (λ q. apart (was parts) p q) p) count }
 {
-    let mut p = 0;
-    while p < count {
+    for p in 0..count {
         if !is_apart(parts, p) {
             return false;
         }
-        p += 1;
     }
     true
 }

@@ -82,13 +82,13 @@ fn write_entries(
         plan_words::scale(have, w),
         plan_words::scale(n, w),
     ) {
-        plan_words::Goal::At(to) => {
+        Some(to) => {
             let slot = lent_tables::offset_of(lengths, first + 1) + base;
             let from = lent_tables::place(places, first + 1, 3) + w * slot;
             crate::entry_writes::write_used(room, to, body, from, w, ranks, count as usize);
             true
         }
-        plan_words::Goal::Skip => false,
+        None => false,
     }
 }
 

@@ -104,7 +104,7 @@ fn put_keys(
 {
     let w = lookups::width_at(plan, 0);
     let n = lent_tables::length_of(lengths, first);
-    match plan_words::target(
+    if let Some(to) = plan_words::target(
         plan,
         parts,
         room.len(),
@@ -114,8 +114,7 @@ fn put_keys(
         0,
         plan_words::scale(n, w),
     ) {
-        plan_words::Goal::At(to) => write_keys(room, to, head, plan, lengths, places, body, first),
-        plan_words::Goal::Skip => {}
+        write_keys(room, to, head, plan, lengths, places, body, first);
     }
 }
 

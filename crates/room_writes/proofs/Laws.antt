@@ -2,20 +2,19 @@
 use mathlib.Core.Path.{◌≡◌, refl, sym, ap, ◌∙◌}
 use mathlib.Core.Bool.{Bool, true, false, cond, ◌&&◌}
 use mathlib.Core.List.{List, [], ◌∷◌}
+use Rattle.std.specs.Prelude.{Option, Some, None}
 use Prim.Native.Nat.{ℕ, ◌+◌, ◌*◌, ◌≤◌, ◌<◌, min}
 use native.Mathlib.Nat.{mul-le-mul_left, mul-one, mul_comm}
 use native.Mathlib.Omega.{arith}
 use lib.ListN.{length}
 use lib.Dec.{ltb}
 use borrow.Author.Tests.{ltb-true, ltb-false, lt-leb}
-use Rattle.number.specs.Number.{splice, number}
+use Rattle.number.specs.Number.{splice}
 use Rattle.bits.specs.Bits.{put_bits}
 use Rattle.array_data.proofs.lent_tables.Laws.{and_left, and_right}
 use Rattle.walk.specs.State.{top, scaled, grown}
 use Rattle.walk.specs.Log.{put, mask, start_of, in_room, enter, apply, apply_if}
 use Rattle.walk.specs.plan_words.Target.{target_of, mask_target_of}
-use Rattle.walk.specs.declared.plan_words.Goal.{Goal}
-use Rattle.walk.specs.declared.plan_words.Goal.TheVariants.{At, Skip}
 use Rattle.walk.proofs.plan_words.Laws.{inside}
 
 -- ---- numbers of 64 bits
@@ -106,11 +105,11 @@ pub record MaskMade (write : Bool) (start p n m : ℕ) : Type 0 where
   pub within : 8 * start + p + n ≤ 8 * m
 
 module _ (plan parts : List ℕ) (m : ℕ) (write : Bool) (i : ℕ) where
-  pub made : (b o n : ℕ) {g : Goal} {a : ℕ} → g ≡ target_of plan parts m write i b o n → g ≡ At a → Made write (start_of plan parts i b) o n m a
+  pub made : (b o n : ℕ) {g : Option ℕ} {a : ℕ} → g ≡ target_of plan parts m write i b o n → g ≡ Some a → Made write (start_of plan parts i b) o n m a
   unfolding target_of
   made b o n {g} {a} e h = go (write && in_room (start_of plan parts i b) o n m) refl (sym e ∙ h)
     where
-      go : (t : Bool) → write && in_room (start_of plan parts i b) o n m ≡ t → cond t (At (start_of plan parts i b + o)) Skip ≡ At a
+      go : (t : Bool) → write && in_room (start_of plan parts i b) o n m ≡ t → cond t (Some (start_of plan parts i b + o)) None ≡ Some a
           → Made write (start_of plan parts i b) o n m a
       go true q r =
           let z : start_of plan parts i b + o ≡ a = cc in
@@ -119,19 +118,19 @@ module _ (plan parts : List ℕ) (m : ℕ) (write : Bool) (i : ℕ) where
           record { writes = and_left write _ q; test = t; at = sym z; within = omega arith }
       go false q r = absurd (let z : ◌≡◌ {A = ℕ} 0 1 = cc in omega arith)
 
-  skipped : (b o n : ℕ) {g : Goal} → g ≡ target_of plan parts m write i b o n → g ≡ Skip → write && in_room (start_of plan parts i b) o n m ≡ false
+  skipped : (b o n : ℕ) {g : Option ℕ} → g ≡ target_of plan parts m write i b o n → g ≡ None → write && in_room (start_of plan parts i b) o n m ≡ false
   unfolding target_of
   skipped b o n {g} e h = go (write && in_room (start_of plan parts i b) o n m) (sym e ∙ h)
     where
-      go : (t : Bool) → cond t (At (start_of plan parts i b + o)) Skip ≡ Skip → t ≡ false
+      go : (t : Bool) → cond t (Some (start_of plan parts i b + o)) None ≡ None → t ≡ false
       go true r = absurd (let z : ◌≡◌ {A = ℕ} 0 1 = cc in omega arith)
       go false r = refl
 
-  pub mask_made : (p n : ℕ) {g : Goal} {a : ℕ} → g ≡ mask_target_of plan parts m write i p n → g ≡ At a → (MaskMade write (start_of plan parts i 0) p n m) × (a ≡ start_of plan parts i 0)
+  pub mask_made : (p n : ℕ) {g : Option ℕ} {a : ℕ} → g ≡ mask_target_of plan parts m write i p n → g ≡ Some a → (MaskMade write (start_of plan parts i 0) p n m) × (a ≡ start_of plan parts i 0)
   unfolding mask_target_of
   mask_made p n {g} {a} e h = go (write && in_room (8 * start_of plan parts i 0) p n (8 * m)) refl (sym e ∙ h)
     where
-      go : (t : Bool) → write && in_room (8 * start_of plan parts i 0) p n (8 * m) ≡ t → cond t (At (start_of plan parts i 0)) Skip ≡ At a
+      go : (t : Bool) → write && in_room (8 * start_of plan parts i 0) p n (8 * m) ≡ t → cond t (Some (start_of plan parts i 0)) None ≡ Some a
           → (MaskMade write (start_of plan parts i 0) p n m) × (a ≡ start_of plan parts i 0)
       go true q r =
           let z : start_of plan parts i 0 ≡ a = cc in
@@ -140,11 +139,11 @@ module _ (plan parts : List ℕ) (m : ℕ) (write : Bool) (i : ℕ) where
           (record { writes = and_left write _ q; test = t; within = d }, sym z)
       go false q r = absurd (let z : ◌≡◌ {A = ℕ} 0 1 = cc in omega arith)
 
-  mask_skipped : (p n : ℕ) {g : Goal} → g ≡ mask_target_of plan parts m write i p n → g ≡ Skip → write && in_room (8 * start_of plan parts i 0) p n (8 * m) ≡ false
+  mask_skipped : (p n : ℕ) {g : Option ℕ} → g ≡ mask_target_of plan parts m write i p n → g ≡ None → write && in_room (8 * start_of plan parts i 0) p n (8 * m) ≡ false
   unfolding mask_target_of
   mask_skipped p n {g} e h = go (write && in_room (8 * start_of plan parts i 0) p n (8 * m)) (sym e ∙ h)
     where
-      go : (t : Bool) → cond t (At (start_of plan parts i 0)) Skip ≡ Skip → t ≡ false
+      go : (t : Bool) → cond t (Some (start_of plan parts i 0)) None ≡ None → t ≡ false
       go true r = absurd (let z : ◌≡◌ {A = ℕ} 0 1 = cc in omega arith)
       go false r = refl
 
@@ -159,7 +158,7 @@ alike_sized n w e = rw (e ∙ mul_comm w n) (alike_scaled n w)
 -- ---- the room behind a write
 
 module _ (plan parts : List ℕ) (write : Bool) (i : ℕ) where
-  pub put_at : (b o : ℕ) (bs room : List ℕ) {n : ℕ} {g : Goal} {a : ℕ} {room2 : List ℕ} → length room < top → g ≡ target_of plan parts (length room) write i b o n → g ≡ At a → Alike n (length bs)
+  pub put_at : (b o : ℕ) (bs room : List ℕ) {n : ℕ} {g : Option ℕ} {a : ℕ} {room2 : List ℕ} → length room < top → g ≡ target_of plan parts (length room) write i b o n → g ≡ Some a → Alike n (length bs)
       → room2 ≡ splice a bs room → room2 ≡ apply_if plan parts write (put i b o bs ∷ []) room
   unfolding apply_if apply enter
   put_at b o bs room {n} l e h k r =
@@ -167,7 +166,7 @@ module _ (plan parts : List ℕ) (write : Bool) (i : ℕ) where
       let s = start_of plan parts i b in
       r ∙ rw (d.writes, sym (room_alike s o o n (length bs) (length room) l (alike_same refl) k) ∙ d.test) (ap (λ (z : ℕ). splice z bs room) d.at)
 
-  pub put_skip : (b o : ℕ) (bs room : List ℕ) {n : ℕ} {g : Goal} → length room < top → g ≡ target_of plan parts (length room) write i b o n → g ≡ Skip → Alike n (length bs)
+  pub put_skip : (b o : ℕ) (bs room : List ℕ) {n : ℕ} {g : Option ℕ} → length room < top → g ≡ target_of plan parts (length room) write i b o n → g ≡ None → Alike n (length bs)
       → room ≡ apply_if plan parts write (put i b o bs ∷ []) room
   unfolding apply_if apply enter
   put_skip b o bs room {n} l e h k = go write (skipped plan parts (length room) write i b o n e h)
@@ -179,14 +178,14 @@ module _ (plan parts : List ℕ) (write : Bool) (i : ℕ) where
       go true q = rw (sym (room_alike s o o n (length bs) (length room) l (alike_same refl) k) ∙ q)
       go false q = refl
 
-  pub mask_at_lem : (p n : ℕ) (vs room : List ℕ) {g : Goal} {a : ℕ} {room2 : List ℕ} → g ≡ mask_target_of plan parts (length room) write i p n → g ≡ At a → length vs ≡ n
+  pub mask_at_lem : (p n : ℕ) (vs room : List ℕ) {g : Option ℕ} {a : ℕ} {room2 : List ℕ} → g ≡ mask_target_of plan parts (length room) write i p n → g ≡ Some a → length vs ≡ n
       → room2 ≡ put_bits (8 * a + p) vs room → room2 ≡ apply_if plan parts write (mask i p vs ∷ []) room
   unfolding apply_if apply enter
   mask_at_lem p n vs room e h k r =
       let d = mask_made plan parts (length room) write i p n e h in
       r ∙ rw (d.0.writes, k, d.0.test) (ap (λ (z : ℕ). put_bits (8 * z + p) vs room) d.1)
 
-  pub mask_skip : (p n : ℕ) (vs room : List ℕ) {g : Goal} → g ≡ mask_target_of plan parts (length room) write i p n → g ≡ Skip → length vs ≡ n
+  pub mask_skip : (p n : ℕ) (vs room : List ℕ) {g : Option ℕ} → g ≡ mask_target_of plan parts (length room) write i p n → g ≡ None → length vs ≡ n
       → room ≡ apply_if plan parts write (mask i p vs ∷ []) room
   unfolding apply_if apply enter
   mask_skip p n vs room e h k = go write (mask_skipped plan parts (length room) write i p n e h)

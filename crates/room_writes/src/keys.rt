@@ -78,7 +78,7 @@ pub fn put_keys(
     ensures { room.new ≡ apply_if plan.now parts.now write (put i b o (rebased w body.now from base n) ∷ []) room.old }
 {
     let code = plan_words::code_of(plan, i);
-    match plan_words::target(
+    if let Some(at) = plan_words::target(
         plan,
         parts,
         room.len(),
@@ -88,7 +88,6 @@ pub fn put_keys(
         o,
         plan_words::scale(n, w),
     ) {
-        plan_words::Goal::At(at) => write_keys(room, at, code, w, body, from, n as usize, base),
-        plan_words::Goal::Skip => {}
+        write_keys(room, at, code, w, body, from, n as usize, base);
     }
 }

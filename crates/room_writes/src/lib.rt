@@ -6,6 +6,7 @@ ghost use Rattle.number.specs.Number.{splice, encode};
 ghost use Rattle.utils.specs.byte_view.View.{reviewed};
 ghost use Rattle.walk.specs.Log.{put, apply_if};
 
+use number::Unsigned;
 use walk::plan_words;
 
 pub mod keys;
@@ -29,9 +30,8 @@ pub fn put_copy(
     requires { (i < 32) × (b < 3) × (from + n ≤ length body.now) }
     ensures { room.new ≡ apply_if plan.now parts.now write (put i b o (take n (drop from body.now)) ∷ []) room.old }
 {
-    match plan_words::target(plan, parts, room.len(), write, i, b, o, n) {
-        plan_words::Goal::At(at) => number::copy::copy_bytes(room, at, body, from, n as usize),
-        plan_words::Goal::Skip => {}
+    if let Some(at) = plan_words::target(plan, parts, room.len(), write, i, b, o, n) {
+        number::copy::copy_bytes(room, at, body, from, n as usize);
     }
 }
 
@@ -51,9 +51,8 @@ pub fn put_zeros(
     ensures { room.new ≡ apply_if plan.now parts.now write (put i b o (replicate (n * w) 0) ∷ []) room.old }
 {
     let size = plan_words::scale(n, w);
-    match plan_words::target(plan, parts, room.len(), write, i, b, o, size) {
-        plan_words::Goal::At(at) => number::copy::fill_zeros(room, at, size as usize),
-        plan_words::Goal::Skip => {}
+    if let Some(at) = plan_words::target(plan, parts, room.len(), write, i, b, o, size) {
+        number::copy::fill_zeros(room, at, size as usize);
     }
 }
 
@@ -72,9 +71,8 @@ pub fn put_same(
     requires { (i < 32) × (b < 3) }
     ensures { room.new ≡ apply_if plan.now parts.now write (put i b o (replicate n v) ∷ []) room.old }
 {
-    match plan_words::target(plan, parts, room.len(), write, i, b, o, n) {
-        plan_words::Goal::At(at) => number::copy::fill_bytes(room, at, n as usize, v),
-        plan_words::Goal::Skip => {}
+    if let Some(at) = plan_words::target(plan, parts, room.len(), write, i, b, o, n) {
+        number::copy::fill_bytes(room, at, n as usize, v);
     }
 }
 
@@ -85,10 +83,10 @@ fn write_number(room: &mut [u8], at: usize, w: u64, v: u64)
     ensures { room.new ≡ splice at (encode w v) room.old }
 {
     match w {
-        1 => number::write_u8(room, at, (v % 256) as u8),
-        2 => number::write_u16(room, at, (v % 65536) as u16),
-        4 => number::write_u32(room, at, (v % 4294967296) as u32),
-        _ => number::write_u64(room, at, v),
+        1 => u8::truncate(v).write(room, at),
+        2 => u16::truncate(v).write(room, at),
+        4 => u32::truncate(v).write(room, at),
+        _ => v.write(room, at),
     }
 }
 
@@ -108,9 +106,8 @@ pub fn put_number(
     requires w_value { (w ≡ 1 → ⊥) → (w ≡ 2 → ⊥) → (w ≡ 4 → ⊥) → w ≡ 8 }
     ensures { room.new ≡ apply_if plan.now parts.now write (put i b o (encode w v) ∷ []) room.old }
 {
-    match plan_words::target(plan, parts, room.len(), write, i, b, o, w) {
-        plan_words::Goal::At(at) => write_number(room, at, w, v),
-        plan_words::Goal::Skip => {}
+    if let Some(at) = plan_words::target(plan, parts, room.len(), write, i, b, o, w) {
+        write_number(room, at, w, v);
     }
 }
 
@@ -131,7 +128,7 @@ pub fn put_views(
     requires { (i < 32) × (b < 3) × (from + 16 * n ≤ length body.now) }
     ensures { room.new ≡ apply_if plan.now parts.now write (put i b o (reviewed body.now from base n) ∷ []) room.old }
 {
-    match plan_words::target(
+    if let Some(at) = plan_words::target(
         plan,
         parts,
         room.len(),
@@ -141,14 +138,13 @@ pub fn put_views(
         o,
         plan_words::scale(n, 16),
     ) {
-        plan_words::Goal::At(at) => utils::byte_view::extend_views(
+        utils::byte_view::extend_views(
             room,
             at,
             body,
             from,
             n as usize,
             (base % 4294967296) as u32,
-        ),
-        plan_words::Goal::Skip => {}
+        );
     }
 }

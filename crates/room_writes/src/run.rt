@@ -51,7 +51,7 @@ pub fn put_run_ends(
     requires w_value { (w ≡ 2 → ⊥) → (w ≡ 4 → ⊥) → w ≡ 8 }
     ensures { room.new ≡ apply_if plan.now parts.now write (put i b o (clipped w body.now from n start.0 end.0 last) ∷ []) room.old }
 {
-    match plan_words::target(
+    if let Some(at) = plan_words::target(
         plan,
         parts,
         room.len(),
@@ -61,9 +61,6 @@ pub fn put_run_ends(
         o,
         plan_words::scale(n, w),
     ) {
-        plan_words::Goal::At(at) => write_run_ends(
-            room, at, w, body, from, n as usize, start, end, last,
-        ),
-        plan_words::Goal::Skip => {}
+        write_run_ends(room, at, w, body, from, n as usize, start, end, last);
     }
 }

@@ -23,10 +23,10 @@ pub fn put_mask(
     ensures value { result ≡ zeros (bits_at (8 * from + a) n body.now) }
 {
     match plan_words::mask_target(plan, parts, room.len(), write, i, p, n) {
-        plan_words::Goal::At(at) => bits::copy_bits(
+        Some(at) => bits::copy_bits(
             room, at, p as usize, body, from, a as usize, n as usize,
         ) as u64,
-        plan_words::Goal::Skip => bits::count_zeros(body, from, a as usize, n as usize) as u64,
+        None => bits::count_zeros(body, from, a as usize, n as usize) as u64,
     }
 }
 
@@ -35,9 +35,8 @@ pub fn put_ones(plan: &[u64], parts: &[u64], room: &mut [u8], write: bool, i: us
     requires { i < 32 }
     ensures { room.new ≡ apply_if plan.now parts.now write (mask i p (replicate n 1) ∷ []) room.old }
 {
-    match plan_words::mask_target(plan, parts, room.len(), write, i, p, n) {
-        plan_words::Goal::At(at) => bits::append_ones(room, at, p as usize, n as usize),
-        plan_words::Goal::Skip => {}
+    if let Some(at) = plan_words::mask_target(plan, parts, room.len(), write, i, p, n) {
+        bits::append_ones(room, at, p as usize, n as usize);
     }
 }
 
@@ -54,8 +53,7 @@ pub fn put_null_bits(
     requires { i < 32 }
     ensures { room.new ≡ apply_if plan.now parts.now write (mask i p (replicate n 0) ∷ []) room.old }
 {
-    match plan_words::mask_target(plan, parts, room.len(), write, i, p, n) {
-        plan_words::Goal::At(at) => bits::append_zeros(room, at, p as usize, n as usize),
-        plan_words::Goal::Skip => {}
+    if let Some(at) = plan_words::mask_target(plan, parts, room.len(), write, i, p, n) {
+        bits::append_zeros(room, at, p as usize, n as usize);
     }
 }

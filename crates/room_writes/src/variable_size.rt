@@ -38,7 +38,7 @@ pub fn put_offsets(
     requires w_value { (w ≡ 4 → ⊥) → w ≡ 8 }
     ensures { room.new ≡ apply_if plan.now parts.now write (put i b o (moved_offsets w body.now from last n) ∷ []) room.old }
 {
-    match plan_words::target(
+    if let Some(at) = plan_words::target(
         plan,
         parts,
         room.len(),
@@ -48,8 +48,7 @@ pub fn put_offsets(
         o,
         plan_words::scale(n, w),
     ) {
-        plan_words::Goal::At(at) => write_offsets(room, at, w, body, from, n as usize, last),
-        plan_words::Goal::Skip => {}
+        write_offsets(room, at, w, body, from, n as usize, last);
     }
 }
 
@@ -82,7 +81,7 @@ pub fn put_repeated(
     requires w_value { (w ≡ 4 → ⊥) → w ≡ 8 }
     ensures { room.new ≡ apply_if plan.now parts.now write (put i b o (repeated w v n) ∷ []) room.old }
 {
-    match plan_words::target(
+    if let Some(at) = plan_words::target(
         plan,
         parts,
         room.len(),
@@ -92,8 +91,7 @@ pub fn put_repeated(
         o,
         plan_words::scale(n, w),
     ) {
-        plan_words::Goal::At(at) => write_repeated(room, at, w, n as usize, v),
-        plan_words::Goal::Skip => {}
+        write_repeated(room, at, w, n as usize, v);
     }
 }
 
@@ -112,7 +110,7 @@ pub fn put_counted(
     requires { (i < 32) × (b < 3) }
     ensures { room.new ≡ apply_if plan.now parts.now write (put i b o (counted_up 4 first n) ∷ []) room.old }
 {
-    match plan_words::target(
+    if let Some(at) = plan_words::target(
         plan,
         parts,
         room.len(),
@@ -122,12 +120,6 @@ pub fn put_counted(
         o,
         plan_words::scale(n, 4),
     ) {
-        plan_words::Goal::At(at) => utils::count_up_i32(
-            room,
-            at,
-            n as usize,
-            (first % 4294967296) as u32,
-        ),
-        plan_words::Goal::Skip => {}
+        utils::count_up_i32(room, at, n as usize, (first % 4294967296) as u32);
     }
 }

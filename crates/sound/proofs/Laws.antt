@@ -32,22 +32,28 @@ module _ (plan : List ℕ) (i : ℕ) where
   abbrev pub Inside : ℕ → Bool
   Inside k = leb (end_of plan (suc i + k)) (end_of plan i)
 
-  below_is : (k : ℕ) {f : ℕ} → f ≡ end_of plan (i + 1 + k) → f ≡ end_of plan (suc i + k)
-  below_is k {f} q = subst (λ z. f ≡ end_of plan (z + k)) (add-one i) q
-
   module _ {e : ℕ} (q : e ≡ end_of plan i) where
-    pub nested_no : (k : ℕ) {f : ℕ} → i + 1 + k < e → f ≡ end_of plan (i + 1 + k) → e < f → false ≡ nested_in plan i
+    pub nested_no : (k j : ℕ) {f : ℕ} → j ≡ suc i + k → j < e → f ≡ end_of plan j → e < f → false ≡ nested_in plan i
     unfolding nested_in
-    nested_no k l g h =
-        let b = below_is k g in
-        sym (every_false Inside (end_of plan i - suc i) k (omega arith) (lt-leb (end_of plan (suc i + k)) (end_of plan i) (omega arith)))
+    nested_no k j p l g h = sym (every_false Inside (end_of plan i - suc i) k (omega arith) (lt-leb (end_of plan (suc i + k)) (end_of plan i) (omega (arith, ap (end_of plan) p))))
 
-    pub nested_more : (k : ℕ) {f : ℕ} → every Inside k ≡ true → f ≡ end_of plan (i + 1 + k) → f ≤ e → every Inside (k + 1) ≡ true
-    nested_more k h g l = let b = below_is k g in every_one Inside k h (le-leb (end_of plan (suc i + k)) (end_of plan i) (omega arith))
+    pub nested_more : (k k2 j : ℕ) {f : ℕ} → j ≡ suc i + k → k2 ≡ k + 1 → every Inside k ≡ true → f ≡ end_of plan j → f ≤ e → every Inside k2 ≡ true
+    nested_more k k2 j p r h g l = rw r (every_one Inside k h (le-leb (end_of plan (suc i + k)) (end_of plan i) (omega (arith, ap (end_of plan) p))))
 
     pub nested_all : (k : ℕ) → k ≤ e - suc i → e ≤ i + 1 + k → every Inside k ≡ true → true ≡ nested_in plan i
     unfolding nested_in
     nested_all k l g h = sym (every_now Inside (end_of plan i - suc i) k (omega arith) (omega arith) h)
+
+    pub nested_none : e ≤ i → true ≡ nested_in plan i
+    unfolding nested_in
+    nested_none l = let z : end_of plan i - suc i ≡ 0 = omega arith in rw z refl
+
+    pub nested_end : (j : ℕ) → (i + 1 ≤ e → j ≤ e) → e ≤ j → every Inside (j - suc i) ≡ true → true ≡ nested_in plan i
+    nested_end j l g h = go (leb (i + 1) e) refl
+      where
+        go : (t : Bool) → leb (i + 1) e ≡ t → true ≡ nested_in plan i
+        go true t = let b = l (leb-true (i + 1) e t) in nested_all (j - suc i) (omega arith) (omega arith) h
+        go false t = let b = leb-false (i + 1) e t in nested_none (omega arith)
 
   -- ---- run ends
 

@@ -15,12 +15,10 @@ fn is_nested(plan: &[u64], i: usize) -> bool
     ensures { result ≡ nested_in plan.now i }
 {
     let end = plan_words::end_of(plan, i);
-    let mut k = 0;
-    while i + 1 + k < end {
-        if end < plan_words::end_of(plan, i + 1 + k) {
+    for k in i + 1..end {
+        if end < plan_words::end_of(plan, k) {
             return false;
         }
-        k += 1;
     }
     true
 }
@@ -92,12 +90,10 @@ pub fn plan_sound(plan: &[u64]) -> bool
     if n == 0 {
         return false;
     }
-    let mut i = 0;
-    while i < n {
+    for i in 0..n {
         if !node_sound(plan, n, i) {
             return false;
         }
-        i += 1;
     }
     true
 }

@@ -10,9 +10,7 @@ pub fn uncount(counters: &mut [u64; plan_words::COUNTERS], n: usize)
     ensures alike { Alike counters.new counters.old }
     ensures full { length counters.old ≡ 96 → Full n counters.new }
 {
-    let mut i = 0;
-    while i < n {
+    for i in 0..n {
         counters[3 * i + 1] = u64::MAX;
-        i += 1;
     }
 }

@@ -1,5 +1,5 @@
 -- Copies of byte strings and lists by what an extension of their offsets comes to. Assumes nothing.
-use mathlib.Core.Path.{◌≡◌, refl, ap, sym, ◌∙◌}
+use mathlib.Core.Path.{◌≡◌, refl, ap}
 use mathlib.Core.Bool.{Bool, true, false, cond, ◌&&◌}
 use mathlib.Core.List.{List}
 use Prim.Native.Nat.{ℕ, suc, ◌+◌, ◌*◌}
@@ -8,7 +8,6 @@ use borrow.Author.Tests.{ltb-true, ltb-false, le-leb, lt-leb}
 use Rattle.number.specs.Number.{entry}
 use Rattle.utils.specs.Offsets.{largest, moved}
 use Rattle.utils.specs.Extension.{over_at, extended}
-use Rattle.utils.specs.declared.Extended.{Extended}
 use Rattle.utils.specs.declared.Extended.TheVariants.{Fits, Falls}
 use Rattle.walk.specs.State.{Join, rows, bytes, place, rows_in}
 use Rattle.walk.specs.Log.{Out, fail, done, need}

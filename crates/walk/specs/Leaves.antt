@@ -1,6 +1,6 @@
 -- The walk at nodes that have no children: validity, fixed-width numbers, keys, views and byte strings. Assumes nothing.
 -- Follows arrow-data 60.1.0 src/transform/primitive.rs, variable_size.rs and mod.rs, Apache-2.0; see NOTICE.
-use Rattle.std.specs.Prelude.{Bool, true, false, cond, ◌&&◌, List, [], ℕ, zero, suc, ◌+◌, ◌*◌, ◌-◌, length, take, drop, get_or, replicate, leb, ltb, eqb}
+use Rattle.std.specs.Prelude.{cond, ◌&&◌, List, ℕ, suc, ◌+◌, ◌*◌, ◌-◌, length, take, drop, replicate, leb, eqb}
 use Rattle.number.specs.Number.{entry}
 use Rattle.bits.specs.Bits.{bits_at, zeros}
 use Rattle.utils.specs.Offsets.{largest, moved, moved_offsets, repeated}

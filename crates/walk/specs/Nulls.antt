@@ -1,6 +1,6 @@
 -- The walk of an order of nulls. Assumes nothing.
 -- Follows the `extend_nulls` of arrow-data 60.1.0 src/transform/mod.rs, list.rs, list_view.rs, union.rs and run.rs, Apache-2.0; see NOTICE.
-use Rattle.std.specs.Prelude.{Bool, true, false, cond, ◌&&◌, List, [], ◌∷◌, ℕ, zero, suc, ◌+◌, ◌*◌, ◌-◌, length, replicate, leb, ltb, eqb}
+use Rattle.std.specs.Prelude.{cond, ◌&&◌, List, ℕ, zero, suc, ◌+◌, ◌*◌, ◌-◌, replicate, leb, ltb, eqb}
 use Rattle.number.specs.Number.{encode}
 use Rattle.columnar.specs.Types.{half}
 use Rattle.schema.specs.formats.Code.{is_fixed, is_string, is_view, is_list_view, is_list, is_sparse, is_dense}

@@ -26,16 +26,6 @@ pub const COUNTERS: usize = 96;
 // No slot of a column: offset and length together are below it.
 pub const FAR: u64 = 9223372036854775808;
 
-// Where a write goes in the room, if it is made.
-#[derive(Clone, Copy)]
-pub enum Goal {
-    At(usize),
-    Skip,
-}
-
-// So many entries of at most 16 bytes each have fewer than 2^64 bytes.
-const FEW: u64 = 1152921504606846976;
-
 // The code of node i's format.
 pub fn code_of(plan: &[u64], i: usize) -> u8
     requires { i < 32 }
@@ -57,11 +47,7 @@ pub fn end_of(plan: &[u64], i: usize) -> usize
     ensures value { result ≡ end_of plan.now i }
     ensures upper_bound { result ≤ 32 }
 {
-    let e = lent_tables::at_u64(plan, 8 * i + 2);
-    if 32 < e {
-        return 32;
-    }
-    e as usize
+    lent_tables::at_u64(plan, 8 * i + 2).min(32) as usize
 }
 
 // The id that node i has as the child of a union.
@@ -122,10 +108,7 @@ pub fn bytes_of(counters: &[u64; COUNTERS], i: usize) -> u64
 pub fn grow(v: u64, n: u64) -> u64
     ensures { result ≡ grown v n }
 {
-    if u64::MAX - v < n {
-        return u64::MAX;
-    }
-    v + n
+    v.saturating_add(n)
 }
 
 // n rows more at node i.
@@ -157,13 +140,7 @@ pub fn scale(r: u64, w: u64) -> u64
     requires { (1 ≤ w) × (w ≤ 16) }
     ensures { result ≡ scaled r w }
 {
-    if r < FEW {
-        return r * w;
-    }
-    if u64::MAX / w < r {
-        return u64::MAX;
-    }
-    r * w
+    r.saturating_mul(w)
 }
 
 // Where the part of buffer b of node i starts; buffer 0 is the validity.
@@ -178,7 +155,7 @@ fn start_of(plan: &[u64], parts: &[u64], i: usize, b: usize) -> u64
     lent_tables::at_u64(parts, 2 * (p - 1))
 }
 
-// Where n bytes from byte o of buffer b of node i on are written in a room of m bytes.
+// Where n bytes from byte o of buffer b of node i on are written in a room of m bytes, if they are.
 pub fn target(
     plan: &[u64],
     parts: &[u64],
@@ -188,22 +165,22 @@ pub fn target(
     b: usize,
     o: u64,
     n: u64,
-) -> Goal
+) -> Option<usize>
     requires { (i < 32) × (b < 3) }
     ensures { result ≡ target_of plan.now parts.now m write i b o n }
 {
     if !write {
-        return Goal::Skip;
+        return None;
     }
     let start = start_of(plan, parts, i, b);
     if !lent_tables::fits_behind(start, o, n, m as u64) {
-        return Goal::Skip;
+        return None;
     }
     let at = start + o;
-    Goal::At(at as usize)
+    Some(at as usize)
 }
 
-// The validity of node i, where n bits from its bit p on are written in a room of m bytes.
+// The validity of node i, where n bits from its bit p on are written in a room of m bytes, if they are.
 pub fn mask_target(
     plan: &[u64],
     parts: &[u64],
@@ -212,16 +189,16 @@ pub fn mask_target(
     i: usize,
     p: u64,
     n: u64,
-) -> Goal
+) -> Option<usize>
     requires { i < 32 }
     ensures { result ≡ mask_target_of plan.now parts.now m write i p n }
 {
     if !write {
-        return Goal::Skip;
+        return None;
     }
     let start = start_of(plan, parts, i, 0);
     if !lent_tables::bits_fit_behind(start, p, n, m as u64) {
-        return Goal::Skip;
+        return None;
     }
-    Goal::At(start as usize)
+    Some(start as usize)
 }

@@ -30,11 +30,10 @@ pub fn put_less(
     ensures { room.new ≡ apply_if (was plan) (was parts) write (put i b 0 (lessened w w2 (was body) from base n) ∷ []) room.old }
 {
     let size = plan_words::scale(n, w2);
-    match plan_words::target(plan, parts, room.len(), write, i, b, 0, size) {
-        plan_words::Goal::At(at) => offsets::recode_less(
+    if let Some(at) = plan_words::target(plan, parts, room.len(), write, i, b, 0, size) {
+        offsets::recode_less(
             room, at, w2, body, from, w, n as usize, base,
-        ),
-        plan_words::Goal::Skip => {}
+        );
     }
 }
 
@@ -58,9 +57,8 @@ pub fn put_recoded(
     ensures { room.new ≡ apply_if (was plan) (was parts) write (put i b 0 (recoded w w2 (was body) from n) ∷ []) room.old }
 {
     let size = plan_words::scale(n, w2);
-    match plan_words::target(plan, parts, room.len(), write, i, b, 0, size) {
-        plan_words::Goal::At(at) => keys::recode(room, at, w2, body, from, w, n as usize),
-        plan_words::Goal::Skip => {}
+    if let Some(at) = plan_words::target(plan, parts, room.len(), write, i, b, 0, size) {
+        keys::recode(room, at, w2, body, from, w, n as usize);
     }
 }
 
@@ -86,11 +84,10 @@ pub fn put_valid(
     ensures { room.new ≡ apply_if (was plan) (was parts) write (put i b 0 (valid_only w w2 (was body) from (8 * valid + a) n) ∷ []) room.old }
 {
     let size = plan_words::scale(n, w2);
-    match plan_words::target(plan, parts, room.len(), write, i, b, 0, size) {
-        plan_words::Goal::At(at) => keys::recode_valid(
+    if let Some(at) = plan_words::target(plan, parts, room.len(), write, i, b, 0, size) {
+        keys::recode_valid(
             room, at, w2, body, from, w, valid, a as usize, n as usize,
-        ),
-        plan_words::Goal::Skip => {}
+        );
     }
 }
 
@@ -150,8 +147,7 @@ pub fn put_ends(
     ensures { room.new ≡ apply_if (was plan) (was parts) write (put i b 0 (lessened w w2 (was body) from base (m - 1) ++ encode w2 last) ∷ []) room.old }
 {
     let size = plan_words::scale(m, w2);
-    match plan_words::target(plan, parts, room.len(), write, i, b, 0, size) {
-        plan_words::Goal::At(at) => write_ends(room, at, w2, body, from, w, m as usize, base, last),
-        plan_words::Goal::Skip => {}
+    if let Some(at) = plan_words::target(plan, parts, room.len(), write, i, b, 0, size) {
+        write_ends(room, at, w2, body, from, w, m as usize, base, last);
     }
 }

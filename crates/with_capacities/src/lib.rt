@@ -25,10 +25,8 @@ pub fn store(to: &mut [u64], from: &[u64], n: usize)
     requires { (length to.old ≡ n) × (length from.now ≡ n) }
     ensures { to.new ≡ was from }
 {
-    let mut i = 0;
-    while i < n {
+    for i in 0..n {
         to[i] = from[i];
-        i += 1;
     }
 }
 

@@ -39,10 +39,8 @@ fn begin_gaps(plan: &[u64], counters: &mut [u64; plan_words::COUNTERS])
     ensures { OnlyCounts plan counters (λ l. each (begin_gaps l) (nodes_of (was plan)) 0) }
 {
     let n = plan::parts::node_count(plan);
-    let mut i = 0;
-    while i < n {
+    for i in 0..n {
         begin_gap(plan, counters, i);
-        i += 1;
     }
 }
 
@@ -69,10 +67,8 @@ pub fn first_offsets(plan: &[u64], parts: &[u64], room: &mut [u8], write: bool)
     ensures { AnyLent plan parts (λ l. Writes plan parts write (each (first_offset l) (nodes_of (was plan)) 0) room 0) }
 {
     let n = plan::parts::node_count(plan);
-    let mut i = 0;
-    while i < n {
+    for i in 0..n {
         first_offset(plan, parts, room, write, i);
-        i += 1;
     }
 }
 
@@ -128,15 +124,13 @@ fn join_entries(
     ensures { Walks plan parts write (join_entries (lent_all plan parts sources lengths places body) i) counters room result }
 {
     let m = source_count(plan);
-    let mut s = 0;
-    while s < m {
+    for s in 0..m {
         let g = join_source(
             plan, parts, sources, lengths, places, body, counters, room, write, i, s,
         );
         if g != 0 {
             return g;
         }
-        s += 1;
     }
     0
 }
@@ -180,13 +174,11 @@ fn entries_hold(plan: &[u64], sources: &[u32], lengths: &[u64], i: usize) -> boo
     ensures { (parts places body : List ℕ) → result ≡ entries_hold (lent (was plan) parts (was sources) (was lengths) places body) i }
 {
     let m = source_count(plan);
-    let mut s = 0;
-    while s < m {
+    for s in 0..m {
         let n = lent_tables::length_of(lengths, dictionaries::node_of(sources, s, i + 1));
         if !lent_tables::fits(plan_words::base_of(plan, s, i), n, u64::MAX) {
             return false;
         }
-        s += 1;
     }
     true
 }
@@ -201,15 +193,13 @@ fn keys_hold(plan: &[u64], sources: &[u32], lengths: &[u64], i: usize) -> bool
         return false;
     }
     let m = source_count(plan);
-    let mut s = 0;
-    while s < m {
+    for s in 0..m {
         let start = plan_words::base_of(plan, s, i);
         let k = dictionaries::node_of(sources, s, i + 1);
         let n = lent_tables::length_of(lengths, k);
         if !dictionaries::key_fits(start, n, code) {
             return false;
         }
-        s += 1;
     }
     true
 }
@@ -264,15 +254,13 @@ fn open_dictionaries(
     ensures { Walks plan parts write (each (open_dictionary (lent_all plan parts sources lengths places body)) (nodes_of (was plan)) 0) counters room result }
 {
     let n = plan::parts::node_count(plan);
-    let mut i = 0;
-    while i < n {
+    for i in 0..n {
         let g = open_dictionary(
             plan, parts, sources, lengths, places, body, counters, room, write, i,
         );
         if g != 0 {
             return g;
         }
-        i += 1;
     }
     0
 }

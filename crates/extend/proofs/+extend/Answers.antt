@@ -110,7 +110,7 @@ union::extend_dense-returns-then-not-pairs_in t c =
     dense_short (join a.plan.now a.parts.now a.lengths.now a.places.now a.body.now a.first a.source) (copy_walk (join a.plan.now a.parts.now a.lengths.now a.places.now a.body.now a.first a.source) a.depth) a.write a.i a.slot a.counters.now a.room.now a.n (c.pairs_in.ensures a.plan.now a.parts.now a.lengths.now a.source) c.if-not-pairs_in.true-raw
 
 pub union::extend_dense-loop-r-init : goal.union::extend_dense-loop-r-init
-union::extend_dense-loop-r-init t c = (search rules, search rules, λ g c2 room2. simp sub-zero (λ d. d))
+union::extend_dense-loop-r-init t c = λ g c2 room2. simp sub-zero (λ d. d)
 
 pub union::extend_dense-extend_dense_row-g-requires : goal.union::extend_dense-extend_dense_row-g-requires
 union::extend_dense-extend_dense_row-g-requires t c =
@@ -123,19 +123,19 @@ pub union::extend_dense-returns-then-g-ne0 : goal.union::extend_dense-returns-th
 union::extend_dense-returns-then-g-ne0 t c =
     let a = c.args in
     let l = c.loop-r in
-    dense_rows_lem (join a.plan.now a.parts.now a.lengths.now a.places.now a.body.now a.first a.source) (copy_walk (join a.plan.now a.parts.now a.lengths.now a.places.now a.body.now a.first a.source) a.depth) a.write a.i a.slot a.counters.now a.room.now a.n (c.pairs_in.ensures a.plan.now a.parts.now a.lengths.now a.source) c.if-not-pairs_in.false-raw (l.invariant.2 _ _ _ (each_stop _ _ (a.n - l.r) (a.n - (l.r + 1)) _ _ _ (omega arith) c.extend_dense_row-g.ensures c.if-g-ne0.true))
+    dense_rows_lem (join a.plan.now a.parts.now a.lengths.now a.places.now a.body.now a.first a.source) (copy_walk (join a.plan.now a.parts.now a.lengths.now a.places.now a.body.now a.first a.source) a.depth) a.write a.i a.slot a.counters.now a.room.now a.n (c.pairs_in.ensures a.plan.now a.parts.now a.lengths.now a.source) c.if-not-pairs_in.false-raw (l.invariant _ _ _ (each_stop _ _ (a.n - l.r) (a.n - (l.r + 1)) _ _ _ (omega arith) c.extend_dense_row-g.ensures c.if-g-ne0.true))
 
 pub union::extend_dense-loop-r-preserved : goal.union::extend_dense-loop-r-preserved
 union::extend_dense-loop-r-preserved t c =
     let a = c.args in
     let l = c.loop-r in
-    (search rules, search rules, λ g c2 room2 d. l.invariant.2 _ _ _ (each_more _ _ (a.n - l.r) (a.n - (l.r + 1)) l.r (l.r + 1) _ _ (omega arith) refl c.extend_dense_row-g.ensures c.if-g-ne0.false d))
+    λ g c2 room2 d. l.invariant _ _ _ (each_more _ _ (a.n - l.r) (a.n - (l.r + 1)) l.r (l.r + 1) _ _ (omega arith) refl c.extend_dense_row-g.ensures c.if-g-ne0.false d)
 
 pub union::extend_dense-returns : goal.union::extend_dense-returns
 union::extend_dense-returns t c =
     let a = c.args in
     let l = c.loop-r in
-    dense_rows_lem (join a.plan.now a.parts.now a.lengths.now a.places.now a.body.now a.first a.source) (copy_walk (join a.plan.now a.parts.now a.lengths.now a.places.now a.body.now a.first a.source) a.depth) a.write a.i a.slot a.counters.now a.room.now a.n (c.pairs_in.ensures a.plan.now a.parts.now a.lengths.now a.source) c.if-not-pairs_in.false-raw (l.invariant.2 _ _ _ (each_none _ _ (a.n - l.r) _ _ _ (omega arith)))
+    dense_rows_lem (join a.plan.now a.parts.now a.lengths.now a.places.now a.body.now a.first a.source) (copy_walk (join a.plan.now a.parts.now a.lengths.now a.places.now a.body.now a.first a.source) a.depth) a.write a.i a.slot a.counters.now a.room.now a.n (c.pairs_in.ensures a.plan.now a.parts.now a.lengths.now a.source) c.if-not-pairs_in.false-raw (l.invariant _ _ _ (each_none _ _ (a.n - l.r) _ _ _ (omega arith)))
 
 pub union::extend_dense_row-overflow_add-at : goal.union::extend_dense_row-overflow_add-at
 union::extend_dense_row-overflow_add-at t c = omega (arith, c.place.ensures, c.requires.fact)
@@ -245,7 +245,7 @@ list_view::extend_list_view-returns-then-not-pairs_in t c =
     list_short (join a.plan.now a.parts.now a.lengths.now a.places.now a.body.now a.first a.source) (copy_walk (join a.plan.now a.parts.now a.lengths.now a.places.now a.body.now a.first a.source) a.depth) a.write a.w a.i a.slot a.counters.now a.room.now a.n (add-one a.i) c.if-i-ge32.false (c.pairs_in.ensures a.plan.now a.parts.now a.lengths.now a.source) c.if-not-pairs_in.true-raw
 
 pub list_view::extend_list_view-loop-r-init : goal.list_view::extend_list_view-loop-r-init
-list_view::extend_list_view-loop-r-init t c = (search rules, search rules, λ g c2 room2. simp sub-zero (λ d. d))
+list_view::extend_list_view-loop-r-init t c = λ g c2 room2. simp sub-zero (λ d. d)
 
 pub list_view::extend_list_view-extend_list_row-g-requires : goal.list_view::extend_list_view-extend_list_row-g-requires
 list_view::extend_list_view-extend_list_row-g-requires t c =
@@ -257,19 +257,19 @@ pub list_view::extend_list_view-returns-then-g-ne0 : goal.list_view::extend_list
 list_view::extend_list_view-returns-then-g-ne0 t c =
     let a = c.args in
     let l = c.loop-r in
-    list_rows_lem (join a.plan.now a.parts.now a.lengths.now a.places.now a.body.now a.first a.source) (copy_walk (join a.plan.now a.parts.now a.lengths.now a.places.now a.body.now a.first a.source) a.depth) a.write a.w a.i a.slot a.counters.now a.room.now a.n (add-one a.i) c.if-i-ge32.false (c.pairs_in.ensures a.plan.now a.parts.now a.lengths.now a.source) c.if-not-pairs_in.false-raw (l.invariant.2 _ _ _ (each_stop _ _ (a.n - l.r) (a.n - (l.r + 1)) _ _ _ (omega arith) c.extend_list_row-g.ensures c.if-g-ne0.true))
+    list_rows_lem (join a.plan.now a.parts.now a.lengths.now a.places.now a.body.now a.first a.source) (copy_walk (join a.plan.now a.parts.now a.lengths.now a.places.now a.body.now a.first a.source) a.depth) a.write a.w a.i a.slot a.counters.now a.room.now a.n (add-one a.i) c.if-i-ge32.false (c.pairs_in.ensures a.plan.now a.parts.now a.lengths.now a.source) c.if-not-pairs_in.false-raw (l.invariant _ _ _ (each_stop _ _ (a.n - l.r) (a.n - (l.r + 1)) _ _ _ (omega arith) c.extend_list_row-g.ensures c.if-g-ne0.true))
 
 pub list_view::extend_list_view-loop-r-preserved : goal.list_view::extend_list_view-loop-r-preserved
 list_view::extend_list_view-loop-r-preserved t c =
     let a = c.args in
     let l = c.loop-r in
-    (search rules, search rules, λ g c2 room2 d. l.invariant.2 _ _ _ (each_more _ _ (a.n - l.r) (a.n - (l.r + 1)) l.r (l.r + 1) _ _ (omega arith) refl c.extend_list_row-g.ensures c.if-g-ne0.false d))
+    λ g c2 room2 d. l.invariant _ _ _ (each_more _ _ (a.n - l.r) (a.n - (l.r + 1)) l.r (l.r + 1) _ _ (omega arith) refl c.extend_list_row-g.ensures c.if-g-ne0.false d)
 
 pub list_view::extend_list_view-returns : goal.list_view::extend_list_view-returns
 list_view::extend_list_view-returns t c =
     let a = c.args in
     let l = c.loop-r in
-    list_rows_lem (join a.plan.now a.parts.now a.lengths.now a.places.now a.body.now a.first a.source) (copy_walk (join a.plan.now a.parts.now a.lengths.now a.places.now a.body.now a.first a.source) a.depth) a.write a.w a.i a.slot a.counters.now a.room.now a.n (add-one a.i) c.if-i-ge32.false (c.pairs_in.ensures a.plan.now a.parts.now a.lengths.now a.source) c.if-not-pairs_in.false-raw (l.invariant.2 _ _ _ (each_none _ _ (a.n - l.r) _ _ _ (omega arith)))
+    list_rows_lem (join a.plan.now a.parts.now a.lengths.now a.places.now a.body.now a.first a.source) (copy_walk (join a.plan.now a.parts.now a.lengths.now a.places.now a.body.now a.first a.source) a.depth) a.write a.w a.i a.slot a.counters.now a.room.now a.n (add-one a.i) c.if-i-ge32.false (c.pairs_in.ensures a.plan.now a.parts.now a.lengths.now a.source) c.if-not-pairs_in.false-raw (l.invariant _ _ _ (each_none _ _ (a.n - l.r) _ _ _ (omega arith)))
 
 pub extend_listed-extend_list-requires : goal.extend_listed-extend_list-requires
 extend_listed-extend_list-requires t c =
@@ -352,13 +352,13 @@ union::extend_sparse-returns-then-g-ne0 t c =
     sparse_stop (join a.plan.now a.parts.now a.lengths.now a.places.now a.body.now a.first a.source) (copy_walk (join a.plan.now a.parts.now a.lengths.now a.places.now a.body.now a.first a.source) a.depth) a.write a.i a.slot a.n a.counters.now a.room.now (rw c.first_id-ids.ensures at (c.copy_numbers-g.ensures a.lengths.now a.source)) c.if-g-ne0.true
 
 pub union::extend_sparse-loop-t-init : goal.union::extend_sparse-loop-t-init
-union::extend_sparse-loop-t-init t c = (search rules, search rules, λ g c2 room2 d. d)
+union::extend_sparse-loop-t-init t c = λ g c2 room2 d. d
 
 pub union::extend_sparse-returns-then-end-k : goal.union::extend_sparse-returns-then-end-k
 union::extend_sparse-returns-then-end-k t c =
     let a = c.args in
     let l = c.loop-t in
-    sparse_go (join a.plan.now a.parts.now a.lengths.now a.places.now a.body.now a.first a.source) (copy_walk (join a.plan.now a.parts.now a.lengths.now a.places.now a.body.now a.first a.source) a.depth) a.write a.i a.slot a.n a.counters.now a.room.now (rw c.first_id-ids.ensures at (c.copy_numbers-g.ensures a.lengths.now a.source)) c.if-g-ne0.false c.end_of-end.ensures.value (add-one a.i) (l.invariant.2 _ _ _ (fields_none (join a.plan.now a.parts.now a.lengths.now a.places.now a.body.now a.first a.source) (copy_walk (join a.plan.now a.parts.now a.lengths.now a.places.now a.body.now a.first a.source) a.depth) a.write a.slot a.n c.end_of-end.result l.k _ _ (32 - l.t) c.if-end-k.true))
+    sparse_go (join a.plan.now a.parts.now a.lengths.now a.places.now a.body.now a.first a.source) (copy_walk (join a.plan.now a.parts.now a.lengths.now a.places.now a.body.now a.first a.source) a.depth) a.write a.i a.slot a.n a.counters.now a.room.now (rw c.first_id-ids.ensures at (c.copy_numbers-g.ensures a.lengths.now a.source)) c.if-g-ne0.false c.end_of-end.ensures.value (add-one a.i) (l.invariant _ _ _ (fields_none (join a.plan.now a.parts.now a.lengths.now a.places.now a.body.now a.first a.source) (copy_walk (join a.plan.now a.parts.now a.lengths.now a.places.now a.body.now a.first a.source) a.depth) a.write a.slot a.n c.end_of-end.result l.k _ _ (32 - l._t) c.if-end-k.true))
 
 pub union::extend_sparse-extend-g-requires : goal.union::extend_sparse-extend-g-requires
 union::extend_sparse-extend-g-requires t c = omega arith
@@ -367,8 +367,8 @@ pub union::extend_sparse-returns-then-g-ne0-2 : goal.union::extend_sparse-return
 union::extend_sparse-returns-then-g-ne0-2 t c =
     let a = c.args in
     let l = c.loop-t in
-    let z : 32 - l.t ≡ suc (32 - (l.t + 1)) = omega arith in
-    sparse_go (join a.plan.now a.parts.now a.lengths.now a.places.now a.body.now a.first a.source) (copy_walk (join a.plan.now a.parts.now a.lengths.now a.places.now a.body.now a.first a.source) a.depth) a.write a.i a.slot a.n a.counters.now a.room.now (rw c.first_id-ids.ensures at (c.copy_numbers-g.ensures a.lengths.now a.source)) c.if-g-ne0.false c.end_of-end.ensures.value (add-one a.i) (l.invariant.2 _ _ _ (fields_stop (join a.plan.now a.parts.now a.lengths.now a.places.now a.body.now a.first a.source) (copy_walk (join a.plan.now a.parts.now a.lengths.now a.places.now a.body.now a.first a.source) a.depth) a.write a.slot a.n c.end_of-end.result l.k _ _ z c.if-end-k.false (rw c.first_row-row.ensures at c.extend-g.ensures) c.if-g-ne0-2.true))
+    let z : 32 - l._t ≡ suc (32 - (l._t + 1)) = omega arith in
+    sparse_go (join a.plan.now a.parts.now a.lengths.now a.places.now a.body.now a.first a.source) (copy_walk (join a.plan.now a.parts.now a.lengths.now a.places.now a.body.now a.first a.source) a.depth) a.write a.i a.slot a.n a.counters.now a.room.now (rw c.first_id-ids.ensures at (c.copy_numbers-g.ensures a.lengths.now a.source)) c.if-g-ne0.false c.end_of-end.ensures.value (add-one a.i) (l.invariant _ _ _ (fields_stop (join a.plan.now a.parts.now a.lengths.now a.places.now a.body.now a.first a.source) (copy_walk (join a.plan.now a.parts.now a.lengths.now a.places.now a.body.now a.first a.source) a.depth) a.write a.slot a.n c.end_of-end.result l.k _ _ z c.if-end-k.false (rw c.first_row-row.ensures at c.extend-g.ensures) c.if-g-ne0-2.true))
 
 pub union::extend_sparse-end_of-k-requires : goal.union::extend_sparse-end_of-k-requires
 union::extend_sparse-end_of-k-requires t c = omega (arith, c.end_of-end.ensures.upper_bound)
@@ -377,11 +377,11 @@ pub union::extend_sparse-loop-t-preserved : goal.union::extend_sparse-loop-t-pre
 union::extend_sparse-loop-t-preserved t c =
     let a = c.args in
     let l = c.loop-t in
-    let z : 32 - l.t ≡ suc (32 - (l.t + 1)) = omega arith in
-    (search rules, search rules, λ g c2 room2 d. l.invariant.2 _ _ _ (fields_more (join a.plan.now a.parts.now a.lengths.now a.places.now a.body.now a.first a.source) (copy_walk (join a.plan.now a.parts.now a.lengths.now a.places.now a.body.now a.first a.source) a.depth) a.write a.slot a.n c.end_of-end.result l.k _ _ z c.if-end-k.false (rw c.first_row-row.ensures at c.extend-g.ensures) c.if-g-ne0-2.false c.end_of-k.ensures.value d))
+    let z : 32 - l._t ≡ suc (32 - (l._t + 1)) = omega arith in
+    λ g c2 room2 d. l.invariant _ _ _ (fields_more (join a.plan.now a.parts.now a.lengths.now a.places.now a.body.now a.first a.source) (copy_walk (join a.plan.now a.parts.now a.lengths.now a.places.now a.body.now a.first a.source) a.depth) a.write a.slot a.n c.end_of-end.result l.k _ _ z c.if-end-k.false (rw c.first_row-row.ensures at c.extend-g.ensures) c.if-g-ne0-2.false c.end_of-k.ensures.value d)
 
 pub union::extend_sparse-returns : goal.union::extend_sparse-returns
 union::extend_sparse-returns t c =
     let a = c.args in
     let l = c.loop-t in
-    sparse_go (join a.plan.now a.parts.now a.lengths.now a.places.now a.body.now a.first a.source) (copy_walk (join a.plan.now a.parts.now a.lengths.now a.places.now a.body.now a.first a.source) a.depth) a.write a.i a.slot a.n a.counters.now a.room.now (rw c.first_id-ids.ensures at (c.copy_numbers-g.ensures a.lengths.now a.source)) c.if-g-ne0.false c.end_of-end.ensures.value (add-one a.i) (l.invariant.2 _ _ _ (fields_over (join a.plan.now a.parts.now a.lengths.now a.places.now a.body.now a.first a.source) (copy_walk (join a.plan.now a.parts.now a.lengths.now a.places.now a.body.now a.first a.source) a.depth) a.write a.slot a.n c.end_of-end.result l.k _ _ (omega arith)))
+    sparse_go (join a.plan.now a.parts.now a.lengths.now a.places.now a.body.now a.first a.source) (copy_walk (join a.plan.now a.parts.now a.lengths.now a.places.now a.body.now a.first a.source) a.depth) a.write a.i a.slot a.n a.counters.now a.room.now (rw c.first_id-ids.ensures at (c.copy_numbers-g.ensures a.lengths.now a.source)) c.if-g-ne0.false c.end_of-end.ensures.value (add-one a.i) (l.invariant _ _ _ (fields_over (join a.plan.now a.parts.now a.lengths.now a.places.now a.body.now a.first a.source) (copy_walk (join a.plan.now a.parts.now a.lengths.now a.places.now a.body.now a.first a.source) a.depth) a.write a.slot a.n c.end_of-end.result l.k _ _ (omega arith)))

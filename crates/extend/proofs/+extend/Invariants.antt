@@ -39,19 +39,10 @@ abbrev pub decreases-union::extend_sparse : goal.decreases-union::extend_sparse
 decreases-union::extend_sparse l = l.depth * 5 + 2
 
 abbrev pub invariant-union::extend_dense-loop-r : goal.invariant-union::extend_dense-loop-r
-invariant-union::extend_dense-loop-r l = (l.r ≤ l.n) × (length l.room ≡ length l.initial.room) × Rest l.plan l.parts l.write (each (dense_row (join l.plan l.parts l.lengths l.places l.body l.first l.source) (copy_walk (join l.plan l.parts l.lengths l.places l.body l.first l.source) l.depth) l.i l.slot) l.n 0 l.initial.counters) l.initial.room (each (dense_row (join l.plan l.parts l.lengths l.places l.body l.first l.source) (copy_walk (join l.plan l.parts l.lengths l.places l.body l.first l.source) l.depth) l.i l.slot) (l.n - l.r) l.r l.counters) l.room
-
-abbrev pub decreases-union::extend_dense-loop-r : goal.decreases-union::extend_dense-loop-r
-decreases-union::extend_dense-loop-r l = l.n - l.r
+invariant-union::extend_dense-loop-r l = Rest l.plan l.parts l.write (each (dense_row (join l.plan l.parts l.lengths l.places l.body l.first l.source) (copy_walk (join l.plan l.parts l.lengths l.places l.body l.first l.source) l.depth) l.i l.slot) l.n 0 l.initial.counters) l.initial.room (each (dense_row (join l.plan l.parts l.lengths l.places l.body l.first l.source) (copy_walk (join l.plan l.parts l.lengths l.places l.body l.first l.source) l.depth) l.i l.slot) (l.n - l.r) l.r l.counters) l.room
 
 abbrev pub invariant-list_view::extend_list_view-loop-r : goal.invariant-list_view::extend_list_view-loop-r
-invariant-list_view::extend_list_view-loop-r l = (l.r ≤ l.n) × (length l.room ≡ length l.initial.room) × Rest l.plan l.parts l.write (each (list_view_row (join l.plan l.parts l.lengths l.places l.body l.first l.source) (copy_walk (join l.plan l.parts l.lengths l.places l.body l.first l.source) l.depth) l.w l.i l.slot) l.n 0 l.initial.counters) l.initial.room (each (list_view_row (join l.plan l.parts l.lengths l.places l.body l.first l.source) (copy_walk (join l.plan l.parts l.lengths l.places l.body l.first l.source) l.depth) l.w l.i l.slot) (l.n - l.r) l.r l.counters) l.room
-
-abbrev pub decreases-list_view::extend_list_view-loop-r : goal.decreases-list_view::extend_list_view-loop-r
-decreases-list_view::extend_list_view-loop-r l = l.n - l.r
+invariant-list_view::extend_list_view-loop-r l = Rest l.plan l.parts l.write (each (list_view_row (join l.plan l.parts l.lengths l.places l.body l.first l.source) (copy_walk (join l.plan l.parts l.lengths l.places l.body l.first l.source) l.depth) l.w l.i l.slot) l.n 0 l.initial.counters) l.initial.room (each (list_view_row (join l.plan l.parts l.lengths l.places l.body l.first l.source) (copy_walk (join l.plan l.parts l.lengths l.places l.body l.first l.source) l.depth) l.w l.i l.slot) (l.n - l.r) l.r l.counters) l.room
 
 abbrev pub invariant-union::extend_sparse-loop-t : goal.invariant-union::extend_sparse-loop-t
-invariant-union::extend_sparse-loop-t l = (l.t ≤ 32) × (length l.room ≡ length l.initial.room) × Rest l.plan l.parts l.write (copy_fields (join l.plan l.parts l.lengths l.places l.body l.first l.source) (copy_walk (join l.plan l.parts l.lengths l.places l.body l.first l.source) l.depth) l.slot l.n l.end 32 l.initial.k l.initial.counters) l.initial.room (copy_fields (join l.plan l.parts l.lengths l.places l.body l.first l.source) (copy_walk (join l.plan l.parts l.lengths l.places l.body l.first l.source) l.depth) l.slot l.n l.end (32 - l.t) l.k l.counters) l.room
-
-abbrev pub decreases-union::extend_sparse-loop-t : goal.decreases-union::extend_sparse-loop-t
-decreases-union::extend_sparse-loop-t l = 32 - l.t
+invariant-union::extend_sparse-loop-t l = Rest l.plan l.parts l.write (copy_fields (join l.plan l.parts l.lengths l.places l.body l.first l.source) (copy_walk (join l.plan l.parts l.lengths l.places l.body l.first l.source) l.depth) l.slot l.n l.end 32 l.initial.k l.initial.counters) l.initial.room (copy_fields (join l.plan l.parts l.lengths l.places l.body l.first l.source) (copy_walk (join l.plan l.parts l.lengths l.places l.body l.first l.source) l.depth) l.slot l.n l.end (32 - l._t) l.k l.counters) l.room

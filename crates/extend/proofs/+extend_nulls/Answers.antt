@@ -145,13 +145,13 @@ union::extend_nulls_sparse-returns-then-g-ne0 t c =
     sparse_stop (join a.plan.now a.parts.now [] [] [] 0 0) (null_walk (join a.plan.now a.parts.now [] [] [] 0 0) a.depth) a.write a.i a.n a.counters.now a.room.now c.null_home-h.ensures.value c.if-h-ge32.false c.null_ids-g.ensures c.if-g-ne0.true
 
 pub union::extend_nulls_sparse-loop-t-init : goal.union::extend_nulls_sparse-loop-t-init
-union::extend_nulls_sparse-loop-t-init t c = (search rules, search rules, λ g c2 room2 d. d)
+union::extend_nulls_sparse-loop-t-init t c = λ g c2 room2 d. d
 
 pub union::extend_nulls_sparse-returns-then-end-k : goal.union::extend_nulls_sparse-returns-then-end-k
 union::extend_nulls_sparse-returns-then-end-k t c =
     let a = c.args in
     let l = c.loop-t in
-    sparse_go (join a.plan.now a.parts.now [] [] [] 0 0) (null_walk (join a.plan.now a.parts.now [] [] [] 0 0) a.depth) a.write a.i a.n a.counters.now a.room.now c.null_home-h.ensures.value c.if-h-ge32.false c.null_ids-g.ensures c.if-g-ne0.false c.end_of-end.ensures.value (add-one a.i) (l.invariant.2 _ _ _ (fields_none (join a.plan.now a.parts.now [] [] [] 0 0) (null_walk (join a.plan.now a.parts.now [] [] [] 0 0) a.depth) a.write a.n c.end_of-end.result l.k _ _ (32 - l.t) c.if-end-k.true))
+    sparse_go (join a.plan.now a.parts.now [] [] [] 0 0) (null_walk (join a.plan.now a.parts.now [] [] [] 0 0) a.depth) a.write a.i a.n a.counters.now a.room.now c.null_home-h.ensures.value c.if-h-ge32.false c.null_ids-g.ensures c.if-g-ne0.false c.end_of-end.ensures.value (add-one a.i) (l.invariant _ _ _ (fields_none (join a.plan.now a.parts.now [] [] [] 0 0) (null_walk (join a.plan.now a.parts.now [] [] [] 0 0) a.depth) a.write a.n c.end_of-end.result l.k _ _ (32 - l._t) c.if-end-k.true))
 
 pub union::extend_nulls_sparse-extend_nulls-g-requires : goal.union::extend_nulls_sparse-extend_nulls-g-requires
 union::extend_nulls_sparse-extend_nulls-g-requires t c = omega arith
@@ -160,8 +160,8 @@ pub union::extend_nulls_sparse-returns-then-g-ne0-2 : goal.union::extend_nulls_s
 union::extend_nulls_sparse-returns-then-g-ne0-2 t c =
     let a = c.args in
     let l = c.loop-t in
-    let z : 32 - l.t ≡ suc (32 - (l.t + 1)) = omega arith in
-    sparse_go (join a.plan.now a.parts.now [] [] [] 0 0) (null_walk (join a.plan.now a.parts.now [] [] [] 0 0) a.depth) a.write a.i a.n a.counters.now a.room.now c.null_home-h.ensures.value c.if-h-ge32.false c.null_ids-g.ensures c.if-g-ne0.false c.end_of-end.ensures.value (add-one a.i) (l.invariant.2 _ _ _ (fields_stop (join a.plan.now a.parts.now [] [] [] 0 0) (null_walk (join a.plan.now a.parts.now [] [] [] 0 0) a.depth) a.write a.n c.end_of-end.result l.k _ _ z c.if-end-k.false c.extend_nulls-g.ensures c.if-g-ne0-2.true))
+    let z : 32 - l._t ≡ suc (32 - (l._t + 1)) = omega arith in
+    sparse_go (join a.plan.now a.parts.now [] [] [] 0 0) (null_walk (join a.plan.now a.parts.now [] [] [] 0 0) a.depth) a.write a.i a.n a.counters.now a.room.now c.null_home-h.ensures.value c.if-h-ge32.false c.null_ids-g.ensures c.if-g-ne0.false c.end_of-end.ensures.value (add-one a.i) (l.invariant _ _ _ (fields_stop (join a.plan.now a.parts.now [] [] [] 0 0) (null_walk (join a.plan.now a.parts.now [] [] [] 0 0) a.depth) a.write a.n c.end_of-end.result l.k _ _ z c.if-end-k.false c.extend_nulls-g.ensures c.if-g-ne0-2.true))
 
 pub union::extend_nulls_sparse-end_of-k-requires : goal.union::extend_nulls_sparse-end_of-k-requires
 union::extend_nulls_sparse-end_of-k-requires t c = omega (arith, c.end_of-end.ensures.upper_bound)
@@ -170,11 +170,11 @@ pub union::extend_nulls_sparse-loop-t-preserved : goal.union::extend_nulls_spars
 union::extend_nulls_sparse-loop-t-preserved t c =
     let a = c.args in
     let l = c.loop-t in
-    let z : 32 - l.t ≡ suc (32 - (l.t + 1)) = omega arith in
-    (search rules, search rules, λ g c2 room2 d. l.invariant.2 _ _ _ (fields_more (join a.plan.now a.parts.now [] [] [] 0 0) (null_walk (join a.plan.now a.parts.now [] [] [] 0 0) a.depth) a.write a.n c.end_of-end.result l.k _ _ z c.if-end-k.false c.extend_nulls-g.ensures c.if-g-ne0-2.false c.end_of-k.ensures.value d))
+    let z : 32 - l._t ≡ suc (32 - (l._t + 1)) = omega arith in
+    λ g c2 room2 d. l.invariant _ _ _ (fields_more (join a.plan.now a.parts.now [] [] [] 0 0) (null_walk (join a.plan.now a.parts.now [] [] [] 0 0) a.depth) a.write a.n c.end_of-end.result l.k _ _ z c.if-end-k.false c.extend_nulls-g.ensures c.if-g-ne0-2.false c.end_of-k.ensures.value d)
 
 pub union::extend_nulls_sparse-returns : goal.union::extend_nulls_sparse-returns
 union::extend_nulls_sparse-returns t c =
     let a = c.args in
     let l = c.loop-t in
-    sparse_go (join a.plan.now a.parts.now [] [] [] 0 0) (null_walk (join a.plan.now a.parts.now [] [] [] 0 0) a.depth) a.write a.i a.n a.counters.now a.room.now c.null_home-h.ensures.value c.if-h-ge32.false c.null_ids-g.ensures c.if-g-ne0.false c.end_of-end.ensures.value (add-one a.i) (l.invariant.2 _ _ _ (fields_over (join a.plan.now a.parts.now [] [] [] 0 0) (null_walk (join a.plan.now a.parts.now [] [] [] 0 0) a.depth) a.write a.n c.end_of-end.result l.k _ _ (omega arith)))
+    sparse_go (join a.plan.now a.parts.now [] [] [] 0 0) (null_walk (join a.plan.now a.parts.now [] [] [] 0 0) a.depth) a.write a.i a.n a.counters.now a.room.now c.null_home-h.ensures.value c.if-h-ge32.false c.null_ids-g.ensures c.if-g-ne0.false c.end_of-end.ensures.value (add-one a.i) (l.invariant _ _ _ (fields_over (join a.plan.now a.parts.now [] [] [] 0 0) (null_walk (join a.plan.now a.parts.now [] [] [] 0 0) a.depth) a.write a.n c.end_of-end.result l.k _ _ (omega arith)))

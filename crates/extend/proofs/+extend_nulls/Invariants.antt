@@ -24,7 +24,4 @@ abbrev pub decreases-union::extend_nulls_sparse : goal.decreases-union::extend_n
 decreases-union::extend_nulls_sparse l = l.depth * 4 + 2
 
 abbrev pub invariant-union::extend_nulls_sparse-loop-t : goal.invariant-union::extend_nulls_sparse-loop-t
-invariant-union::extend_nulls_sparse-loop-t l = (l.t ≤ 32) × (length l.room ≡ length l.initial.room) × Rest l.plan l.parts l.write (null_fields (join l.plan l.parts [] [] [] 0 0) (null_walk (join l.plan l.parts [] [] [] 0 0) l.depth) l.n l.end 32 l.initial.k l.initial.counters) l.initial.room (null_fields (join l.plan l.parts [] [] [] 0 0) (null_walk (join l.plan l.parts [] [] [] 0 0) l.depth) l.n l.end (32 - l.t) l.k l.counters) l.room
-
-abbrev pub decreases-union::extend_nulls_sparse-loop-t : goal.decreases-union::extend_nulls_sparse-loop-t
-decreases-union::extend_nulls_sparse-loop-t l = 32 - l.t
+invariant-union::extend_nulls_sparse-loop-t l = Rest l.plan l.parts l.write (null_fields (join l.plan l.parts [] [] [] 0 0) (null_walk (join l.plan l.parts [] [] [] 0 0) l.depth) l.n l.end 32 l.initial.k l.initial.counters) l.initial.room (null_fields (join l.plan l.parts [] [] [] 0 0) (null_walk (join l.plan l.parts [] [] [] 0 0) l.depth) l.n l.end (32 - l._t) l.k l.counters) l.room

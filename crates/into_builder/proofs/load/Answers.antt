@@ -7,7 +7,7 @@ use native.Mathlib.Omega.{arith}
 use Rattle.into_builder.proofs.load.Goals as goal
 
 pub loop-i-init : goal.loop-i-init
-loop-i-init c = (omega arith, behind_none (replicate 96 0) 0)
+loop-i-init c = behind_none (replicate 96 0) 0
 
 pub offset_bounds-counters-i : goal.offset_bounds-counters-i
 offset_bounds-counters-i c = omega arith
@@ -19,20 +19,14 @@ pub offset_bounds-tally-i : goal.offset_bounds-tally-i
 offset_bounds-tally-i c = omega arith
 
 pub bounds-tally-i : goal.bounds-tally-i
-bounds-tally-i c = omega (arith, c.loop-i.invariant.1.same)
-
-pub overflow_add-i : goal.overflow_add-i
-overflow_add-i c = omega arith
-
-pub loop-i-smaller : goal.loop-i-smaller
-loop-i-smaller c = omega arith
+bounds-tally-i c = omega (arith, c.loop-i.invariant.same)
 
 pub loop-i-preserved : goal.loop-i-preserved
 loop-i-preserved c =
     let l = c.loop-i in
-    (omega arith, table_more (λ q. get_or c.args.counters.now q 0) (replicate 96 0) l.tally l.i _ (omega arith) l.invariant.1 refl)
+    table_more (λ q. get_or c.args.counters.now q 0) (replicate 96 0) l.tally l.i _ (omega arith) l.invariant refl
 
 pub returns : goal.returns
 returns c =
     let l = c.loop-i in
-    table_all (λ q. get_or c.args.counters.now q 0) (replicate 96 0) l.tally l.i 96 (omega arith) refl l.invariant.1 ∙ seg_self c.args.counters.now 96 c.requires
+    table_all (λ q. get_or c.args.counters.now q 0) (replicate 96 0) l.tally l.i 96 (omega arith) refl l.invariant ∙ seg_self c.args.counters.now 96 c.requires

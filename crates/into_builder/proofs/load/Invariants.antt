@@ -5,7 +5,4 @@ use Rattle.into_builder.specs.buffers.Names.{Behind}
 use Rattle.into_builder.proofs.load.Given as goal
 
 abbrev pub invariant-loop-i : goal.invariant-loop-i
-invariant-loop-i l = (l.i ≤ 96) × Behind (replicate 96 0) l.tally 0 l.i (seg (λ q. get_or l.counters q 0) 0 l.i)
-
-abbrev pub decreases-loop-i : goal.decreases-loop-i
-decreases-loop-i l = 96 - l.i
+invariant-loop-i l = Behind (replicate 96 0) l.tally 0 l.i (seg (λ q. get_or l.counters q 0) 0 l.i)

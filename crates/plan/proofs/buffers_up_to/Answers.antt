@@ -7,7 +7,7 @@ use Rattle.plan.proofs.buffers_up_to.Goals as goal
 pub loop-t-init : goal.loop-t-init
 loop-t-init c =
     let z = c.args in
-    (omega arith, omega arith, up_to_none z.places.now z.sources.now z.i)
+    (omega arith, up_to_none z.places.now z.sources.now z.i)
 
 pub node_of-k-requires : goal.node_of-k-requires
 node_of-k-requires c = omega arith
@@ -18,20 +18,14 @@ buffers_of-sum-requires c = omega arith
 pub overflow_add-sum : goal.overflow_add-sum
 overflow_add-sum c = omega arith
 
-pub overflow_add-t : goal.overflow_add-t
-overflow_add-t c = omega arith
-
-pub loop-t-smaller : goal.loop-t-smaller
-loop-t-smaller c = omega arith
-
 pub loop-t-preserved : goal.loop-t-preserved
 loop-t-preserved c =
     let z = c.args in
     let l = c.loop-t in
-    (omega arith, omega arith, up_to_more z.places.now z.sources.now z.i l.t l.invariant.2 c.node_of-k.ensures.value c.buffers_of-sum.ensures.value)
+    (omega arith, up_to_more z.places.now z.sources.now z.i l.t l.invariant.1 c.node_of-k.ensures.value c.buffers_of-sum.ensures.value)
 
 pub returns : goal.returns
 returns c =
     let z = c.args in
     let l = c.loop-t in
-    record { value = up_to_all z.places.now z.sources.now z.i z.s l.t (omega arith) l.invariant.2; upper_bound = omega arith }
+    record { value = up_to_all z.places.now z.sources.now z.i z.s l.t (omega arith) l.invariant.1; upper_bound = omega arith }

@@ -232,9 +232,9 @@ module _ {P : Type 0} (ds : ℕ → Dictionary P) where
           rw g (and-false (shared (suc m) ds))
       go false q f = rw (f (omega (arith, eqb-false s m q)))
 
-  pub share_all : (s m : ℕ) → s ≤ m - 1 → m ≤ suc s → shared (suc s) ds ≡ true → shared m ds ≡ true
+  pub share_all : (s m : ℕ) → (1 ≤ m → s ≤ m) → m ≤ s → shared s ds ≡ true → shared m ds ≡ true
   share_all s zero l h e = refl
-  share_all s (suc m) l h e = let q : s ≡ m = omega arith in rw q at e
+  share_all s (suc m) l h e = let q : s ≡ suc m = omega (arith, l (omega arith)) in rw q at e
 
 -- ---- what was read of a source's node
 

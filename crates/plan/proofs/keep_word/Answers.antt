@@ -3,7 +3,7 @@ use mathlib.Core.Path.{sym, ap, ◌∙◌}
 use native.Mathlib.Omega.{arith}
 use Rattle.array_data.specs.lent_tables.Lent.{tables}
 use Rattle.plan.specs.Plan.{flag}
-use Rattle.plan.proofs.Laws.{keep_ends, keep_by}
+use Rattle.plan.proofs.Laws.{byte_flag, keep_ends, keep_by}
 use Rattle.plan.proofs.keep_word.Goals as goal
 
 pub returns-then-is_ends : goal.returns-then-is_ends
@@ -14,12 +14,7 @@ returns-then-is_ends c =
 pub keeps-requires : goal.keeps-requires
 keeps-requires c = (omega arith, omega arith, λ s h. c.requires.2 s (omega arith))
 
-pub returns-then-keeps : goal.returns-then-keeps
-returns-then-keeps c =
-    let z = c.args in
-    sym (ap flag c.if-keeps.true) ∙ keep_by (tables z.lengths.now z.places.now z.body.now) z.sources.now z.m z.keep z.plan.now z.i c.is_ends.ensures c.if-is_ends.false c.is_asked-above.ensures c.keeps.ensures
-
 pub returns : goal.returns
 returns c =
     let z = c.args in
-    sym (ap flag c.if-keeps.false) ∙ keep_by (tables z.lengths.now z.places.now z.body.now) z.sources.now z.m z.keep z.plan.now z.i c.is_ends.ensures c.if-is_ends.false c.is_asked-above.ensures c.keeps.ensures
+    byte_flag c.keeps.result ∙ keep_by (tables z.lengths.now z.places.now z.body.now) z.sources.now z.m z.keep z.plan.now z.i c.is_ends.ensures c.if-is_ends.false c.is_asked-above.ensures c.keeps.ensures

@@ -7,10 +7,7 @@ use Rattle.plan.proofs.Laws.{holds, holds_not, holds_none}
 use Rattle.plan.proofs.parent_of.Goals as goal
 
 pub loop-p-init : goal.loop-p-init
-loop-p-init c = (omega arith, refl)
-
-pub overflow_sub-p : goal.overflow_sub-p
-overflow_sub-p c = omega arith
+loop-p-init c = refl
 
 pub end_of-requires : goal.end_of-requires
 end_of-requires c = omega arith
@@ -20,20 +17,17 @@ returns-then-i-end_of c =
     let z = c.args in
     let l = c.loop-p in
     let e : suc (l.p - 1) ≡ l.p = omega arith in
-    record { value = sym (holds z.plan.now z.i (l.p - 1) (omega (arith, c.if-i-end_of.true, c.end_of.ensures.value))) ∙ ap (λ q. holder z.plan.now q z.i) e ∙ l.invariant.1; upper_bound = omega arith }
-
-pub loop-p-smaller : goal.loop-p-smaller
-loop-p-smaller c = omega arith
+    record { value = sym (holds z.plan.now z.i (l.p - 1) (omega (arith, c.if-i-end_of.true, c.end_of.ensures.value))) ∙ ap (λ q. holder z.plan.now q z.i) e ∙ l.invariant; upper_bound = omega arith }
 
 pub loop-p-preserved : goal.loop-p-preserved
 loop-p-preserved c =
     let z = c.args in
     let l = c.loop-p in
     let e : suc (l.p - 1) ≡ l.p = omega arith in
-    (omega arith, sym (holds_not z.plan.now z.i (l.p - 1) (omega (arith, c.if-i-end_of.false, c.end_of.ensures.value))) ∙ ap (λ q. holder z.plan.now q z.i) e ∙ l.invariant.1)
+    sym (holds_not z.plan.now z.i (l.p - 1) (omega (arith, c.if-i-end_of.false, c.end_of.ensures.value))) ∙ ap (λ q. holder z.plan.now q z.i) e ∙ l.invariant
 
 pub returns : goal.returns
 returns c =
     let z = c.args in
     let l = c.loop-p in
-    record { value = sym (holds_none z.plan.now z.i l.p (omega arith)) ∙ l.invariant.1; upper_bound = omega arith }
+    record { value = sym (holds_none z.plan.now z.i l.p (omega arith)) ∙ l.invariant; upper_bound = omega arith }

@@ -4,7 +4,4 @@ use Rattle.plan.specs.Plan.{holder}
 use Rattle.plan.proofs.parent_of.Given as goal
 
 abbrev pub invariant-loop-p : goal.invariant-loop-p
-invariant-loop-p l = (l.p ≤ l.i) × (holder l.plan l.p l.i ≡ holder l.plan l.i l.i)
-
-abbrev pub decreases-loop-p : goal.decreases-loop-p
-decreases-loop-p l = l.p
+invariant-loop-p l = holder l.plan l.p l.i ≡ holder l.plan l.i l.i

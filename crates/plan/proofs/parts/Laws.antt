@@ -3,6 +3,7 @@ use mathlib.Core.Path.{◌≡◌, refl, ap, sym, ◌∙◌}
 use mathlib.Core.Bool.{Bool, true, false, not, cond, ◌&&◌, ◌||◌}
 use mathlib.Core.List.{List, [], ◌∷◌}
 use Prim.Native.Nat.{ℕ, zero, suc, ◌+◌, ◌*◌, ◌-◌, ◌/◌, ◌≤◌, ◌<◌}
+use mir.Val.{bool_byte}
 use native.Mathlib.Omega.{arith}
 use native.Mathlib.Numerals.{add-one}
 use lib.ListN.{length, get_or}
@@ -27,6 +28,15 @@ pub every_three : (p : ℕ → Bool) {a b c : Bool} → a ≡ p 0 → b ≡ p 1 
 every_three p e f g = rw (e, f, g)
 
 -- ---- which parts there are
+
+-- a bool as a number
+pub byte_one : (b : Bool) → bool_byte b ≡ cond b 1 0
+byte_one true = refl
+byte_one false = refl
+
+pub byte_small : (b : Bool) → bool_byte b ≤ 1
+byte_small true = omega arith
+byte_small false = omega arith
 
 all_below_lem : ℕ → List ℕ → Bool
 all_below_lem k [] = true

@@ -9,10 +9,10 @@ use Rattle.plan.proofs.write_bases.Goals as goal
 pub loop-q-init : goal.loop-q-init
 loop-q-init c =
     let z = c.args in
-    (omega arith, filled_none (λ k. 352 + k) (λ words k. base_word (tables z.lengths.now z.places.now z.body.now) z.sources.now z.m words (k / 32) (k % 32)) z.plan.now)
+    filled_none (λ k. 352 + k) (λ words k. base_word (tables z.lengths.now z.places.now z.body.now) z.sources.now z.m words (k / 32) (k % 32)) z.plan.now
 
-pub overflow_mul-m : goal.overflow_mul-m
-overflow_mul-m c = omega arith
+pub overflow_mul-q-end : goal.overflow_mul-q-end
+overflow_mul-q-end c = omega arith
 
 pub base_word-requires : goal.base_word-requires
 base_word-requires c = omega arith
@@ -26,21 +26,15 @@ offset_bounds-plan-q c = omega arith
 pub bounds-plan-q : goal.bounds-plan-q
 bounds-plan-q c = omega arith
 
-pub overflow_add-q : goal.overflow_add-q
-overflow_add-q c = omega arith
-
-pub loop-q-smaller : goal.loop-q-smaller
-loop-q-smaller c = omega arith
-
 pub loop-q-preserved : goal.loop-q-preserved
 loop-q-preserved c =
     let z = c.args in
     let l = c.loop-q in
-    (omega arith, filled_more (λ k. 352 + k) (λ words k. base_word (tables z.lengths.now z.places.now z.body.now) z.sources.now z.m words (k / 32) (k % 32)) l.q z.plan.now l.plan l.invariant.1 c.base_word.ensures)
+    filled_more (λ k. 352 + k) (λ words k. base_word (tables z.lengths.now z.places.now z.body.now) z.sources.now z.m words (k / 32) (k % 32)) l.q z.plan.now l.plan l.invariant c.base_word.ensures
 
 pub returns : goal.returns
 unfolding with_bases
 returns c =
     let z = c.args in
     let l = c.loop-q in
-    filled_all (λ k. 352 + k) (λ words k. base_word (tables z.lengths.now z.places.now z.body.now) z.sources.now z.m words (k / 32) (k % 32)) l.q (32 * z.m) z.plan.now l.plan (omega arith) l.invariant.1
+    filled_all (λ k. 352 + k) (λ words k. base_word (tables z.lengths.now z.places.now z.body.now) z.sources.now z.m words (k / 32) (k % 32)) l.q (32 * z.m) z.plan.now l.plan (omega arith) l.invariant

@@ -9,7 +9,7 @@ use Rattle.plan.proofs.write_keeps.Goals as goal
 pub loop-i-init : goal.loop-i-init
 loop-i-init c =
     let z = c.args in
-    (omega arith, filled_none (λ k. 8 * k + 5) (keep_word (tables z.lengths.now z.places.now z.body.now) z.sources.now z.m z.keep) z.plan.now)
+    filled_none (λ k. 8 * k + 5) (keep_word (tables z.lengths.now z.places.now z.body.now) z.sources.now z.m z.keep) z.plan.now
 
 pub keep_word-requires : goal.keep_word-requires
 keep_word-requires c = (omega arith, omega arith, λ s h. c.requires.2 s c.loop-i.i h (omega arith))
@@ -26,21 +26,15 @@ offset_bounds-plan-i c = omega arith
 pub bounds-plan-i : goal.bounds-plan-i
 bounds-plan-i c = omega arith
 
-pub overflow_add-i : goal.overflow_add-i
-overflow_add-i c = omega arith
-
-pub loop-i-smaller : goal.loop-i-smaller
-loop-i-smaller c = omega arith
-
 pub loop-i-preserved : goal.loop-i-preserved
 loop-i-preserved c =
     let z = c.args in
     let l = c.loop-i in
-    (omega arith, filled_more (λ k. 8 * k + 5) (keep_word (tables z.lengths.now z.places.now z.body.now) z.sources.now z.m z.keep) l.i z.plan.now l.plan l.invariant.1 c.keep_word.ensures)
+    filled_more (λ k. 8 * k + 5) (keep_word (tables z.lengths.now z.places.now z.body.now) z.sources.now z.m z.keep) l.i z.plan.now l.plan l.invariant c.keep_word.ensures
 
 pub returns : goal.returns
 unfolding with_keeps
 returns c =
     let z = c.args in
     let l = c.loop-i in
-    filled_all (λ k. 8 * k + 5) (keep_word (tables z.lengths.now z.places.now z.body.now) z.sources.now z.m z.keep) l.i z.n z.plan.now l.plan (omega arith) l.invariant.1
+    filled_all (λ k. 8 * k + 5) (keep_word (tables z.lengths.now z.places.now z.body.now) z.sources.now z.m z.keep) l.i z.n z.plan.now l.plan (omega arith) l.invariant

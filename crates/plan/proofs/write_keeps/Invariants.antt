@@ -5,7 +5,4 @@ use Rattle.plan.specs.Plan.{filled, keep_word}
 use Rattle.plan.proofs.write_keeps.Given as goal
 
 abbrev pub invariant-loop-i : goal.invariant-loop-i
-invariant-loop-i l = (l.i ≤ l.n) × (l.plan ≡ filled (λ k. 8 * k + 5) (keep_word (tables l.lengths l.places l.body) l.sources l.m l.keep) l.i l.initial.plan)
-
-abbrev pub decreases-loop-i : goal.decreases-loop-i
-decreases-loop-i l = l.n - l.i
+invariant-loop-i l = l.plan ≡ filled (λ k. 8 * k + 5) (keep_word (tables l.lengths l.places l.body) l.sources l.m l.keep) l.i l.initial.plan

@@ -5,7 +5,4 @@ use Rattle.plan.specs.Plan.{filled}
 use Rattle.plan.proofs.write_parts.Given as goal
 
 abbrev pub invariant-loop-i : goal.invariant-loop-i
-invariant-loop-i l = (l.i ≤ l.n) × (l.plan ≡ filled (λ k. 8 * k + 6) part_word l.i l.initial.plan)
-
-abbrev pub decreases-loop-i : goal.decreases-loop-i
-decreases-loop-i l = l.n - l.i
+invariant-loop-i l = l.plan ≡ filled (λ k. 8 * k + 6) part_word l.i l.initial.plan

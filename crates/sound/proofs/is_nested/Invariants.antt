@@ -1,4 +1,4 @@
-use Prim.Native.Nat.{suc, ◌-◌, ◌≤◌}
+use Prim.Native.Nat.{suc, ◌-◌}
 use mathlib.Core.Path.{◌≡◌}
 use mathlib.Core.Bool.{true}
 use Rattle.columnar.specs.Test.{every}
@@ -6,7 +6,4 @@ use Rattle.sound.proofs.Laws.{Inside}
 use Rattle.sound.proofs.is_nested.Given as goal
 
 abbrev pub invariant-loop-k : goal.invariant-loop-k
-invariant-loop-k l = (l.k ≤ l.end - suc l.i) × (every (Inside l.plan l.i) l.k ≡ true)
-
-abbrev pub decreases-loop-k : goal.decreases-loop-k
-decreases-loop-k l = l.end - l.k
+invariant-loop-k l = every (Inside l.plan l.i) (l.k - suc l.i) ≡ true

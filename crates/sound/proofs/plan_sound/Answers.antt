@@ -16,7 +16,7 @@ pub returns-then-n-eq0 : goal.returns-then-n-eq0
 returns-then-n-eq0 c = plan_none c.args.plan.now c.node_count-n.ensures.value c.if-n-eq0.true
 
 pub loop-i-init : goal.loop-i-init
-loop-i-init c = (omega arith, refl)
+loop-i-init c = refl
 
 pub node_sound-requires : goal.node_sound-requires
 node_sound-requires c = (omega (arith, c.node_count-n.ensures.upper_bound), c.node_count-n.ensures.upper_bound)
@@ -24,14 +24,8 @@ node_sound-requires c = (omega (arith, c.node_count-n.ensures.upper_bound), c.no
 pub returns-then-not-node_sound : goal.returns-then-not-node_sound
 returns-then-not-node_sound c = plan_no c.args.plan.now c.node_count-n.ensures.value c.if-n-eq0.false c.loop-i.i (omega arith) (no c.node_sound.ensures c.if-not-node_sound.true-raw)
 
-pub overflow_add-i : goal.overflow_add-i
-overflow_add-i c = omega (arith, c.node_count-n.ensures.upper_bound)
-
-pub loop-i-smaller : goal.loop-i-smaller
-loop-i-smaller c = omega arith
-
 pub loop-i-preserved : goal.loop-i-preserved
-loop-i-preserved c = (omega arith, every_one (node_sound c.args.plan.now c.node_count-n.result) c.loop-i.i c.loop-i.invariant.1 (yes c.node_sound.ensures c.if-not-node_sound.false-raw))
+loop-i-preserved c = every_one (node_sound c.args.plan.now c.node_count-n.result) c.loop-i.i c.loop-i.invariant (yes c.node_sound.ensures c.if-not-node_sound.false-raw)
 
 pub returns : goal.returns
-returns c = plan_all c.args.plan.now c.node_count-n.ensures.value c.if-n-eq0.false c.loop-i.i (omega arith) (omega arith) c.loop-i.invariant.1
+returns c = plan_all c.args.plan.now c.node_count-n.ensures.value c.if-n-eq0.false c.loop-i.i (omega arith) (omega arith) c.loop-i.invariant

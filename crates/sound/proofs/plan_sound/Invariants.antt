@@ -6,7 +6,4 @@ use Rattle.refinement.specs.orders.Sound.{node_sound}
 use Rattle.sound.proofs.plan_sound.Given as goal
 
 abbrev pub invariant-loop-i : goal.invariant-loop-i
-invariant-loop-i l = (l.i ≤ l.n) × (every (node_sound l.plan l.n) l.i ≡ true)
-
-abbrev pub decreases-loop-i : goal.decreases-loop-i
-decreases-loop-i l = l.n - l.i
+invariant-loop-i l = every (node_sound l.plan l.n) l.i ≡ true

@@ -2,28 +2,15 @@
 use mathlib.Core.Path.{◌≡◌, refl, sym, ap, ◌∙◌}
 use mathlib.Core.Bool.{Bool, true, false, not, ◌&&◌}
 use mathlib.Core.List.{List}
-use Prim.Native.Nat.{ℕ, ◌+◌, ◌-◌, ◌*◌, ◌/◌, ◌≤◌, ◌<◌}
-use native.Mathlib.Nat.{le-div_iff_mul-le}
-use native.Mathlib.Omega.{arith}
+use Rattle.std.specs.Prelude.{Some, None}
+use Prim.Native.Nat.{ℕ, ◌+◌, ◌-◌, ◌*◌, ◌≤◌}
 use lib.ListN.{get_or}
 use lib.Dec.{leb}
 use borrow.Author.Tests.{leb-true, not-true, not-false}
 use Rattle.array_data.proofs.lent_tables.Laws.{no, yes}
-use Rattle.walk.specs.State.{part_of, top}
+use Rattle.walk.specs.State.{part_of}
 use Rattle.walk.specs.Log.{start_of, in_room}
 use Rattle.walk.specs.plan_words.Target.{target_of, mask_target_of}
-use Rattle.walk.specs.declared.plan_words.Goal.TheVariants.{At, Skip}
-
--- ---- r entries of w bytes, by a quotient
-
-pub quotient_in : (r w : ℕ) → 1 ≤ w → r ≤ top / w → r * w ≤ top
-quotient_in r w h l = let z : 0 < w = omega arith in (le-div_iff_mul-le z).0 l
-
-pub quotient_past : (r w : ℕ) → 1 ≤ w → top / w < r → top < r * w
-quotient_past r w h l =
-    let z : 0 < w = omega arith in
-    let f : r * w ≤ top → ⊥ = λ q. let g : r ≤ top / w = (le-div_iff_mul-le z).1 q in omega arith in
-    omega (arith, f)
 
 -- ---- a range in the room
 
@@ -51,28 +38,28 @@ pub part_start : (plan parts : List ℕ) (i b : ℕ) {p k r : ℕ} → p ≡ par
 part_start plan parts i b e g h = g ∙ ap (λ (z : ℕ). get_or parts z 0) (h ∙ ap (λ (z : ℕ). 2 * (z + b - 1)) e)
 
 module _ (plan parts : List ℕ) (m : ℕ) where
-  pub skip_tries : (write : Bool) (i b o n : ℕ) → not write ≡ true → Skip ≡ target_of plan parts m write i b o n
+  pub skip_tries : (write : Bool) (i b o n : ℕ) → not write ≡ true → None ≡ target_of plan parts m write i b o n
   unfolding target_of
   skip_tries write i b o n h = rw (not-true write h)
 
-  pub skip_room : (write : Bool) (i b o n : ℕ) {start : ℕ} → start ≡ start_of plan parts i b → in_room start o n m ≡ false → Skip ≡ target_of plan parts m write i b o n
+  pub skip_room : (write : Bool) (i b o n : ℕ) {start : ℕ} → start ≡ start_of plan parts i b → in_room start o n m ≡ false → None ≡ target_of plan parts m write i b o n
   unfolding target_of
   skip_room write i b o n e h = rw (sym e, h, and_no write)
 
   pub goes : (write : Bool) (i b o n : ℕ) {start : ℕ} → start ≡ start_of plan parts i b → not write ≡ false → in_room start o n m ≡ true
-      → At (start + o) ≡ target_of plan parts m write i b o n
+      → Some (start + o) ≡ target_of plan parts m write i b o n
   unfolding target_of
   goes write i b o n e h r = rw (not-false write h, sym e, r)
 
-  pub mask_skip_tries : (write : Bool) (i p n : ℕ) → not write ≡ true → Skip ≡ mask_target_of plan parts m write i p n
+  pub mask_skip_tries : (write : Bool) (i p n : ℕ) → not write ≡ true → None ≡ mask_target_of plan parts m write i p n
   unfolding mask_target_of
   mask_skip_tries write i p n h = rw (not-true write h)
 
-  pub mask_skip_room : (write : Bool) (i p n : ℕ) {start : ℕ} → start ≡ start_of plan parts i 0 → in_room (8 * start) p n (8 * m) ≡ false → Skip ≡ mask_target_of plan parts m write i p n
+  pub mask_skip_room : (write : Bool) (i p n : ℕ) {start : ℕ} → start ≡ start_of plan parts i 0 → in_room (8 * start) p n (8 * m) ≡ false → None ≡ mask_target_of plan parts m write i p n
   unfolding mask_target_of
   mask_skip_room write i p n e h = rw (sym e, h, and_no write)
 
   pub mask_goes : (write : Bool) (i p n : ℕ) {start : ℕ} → start ≡ start_of plan parts i 0 → not write ≡ false → in_room (8 * start) p n (8 * m) ≡ true
-      → At start ≡ mask_target_of plan parts m write i p n
+      → Some start ≡ mask_target_of plan parts m write i p n
   unfolding mask_target_of
   mask_goes write i p n e h r = rw (not-false write h, sym e, r)

@@ -3,7 +3,4 @@ use Rattle.with_capacities.proofs.Laws.{Written}
 use Rattle.with_capacities.proofs.store.Given as goal
 
 abbrev pub invariant-loop-i : goal.invariant-loop-i
-invariant-loop-i l = (l.i ≤ l.n) × Written l.from l.to l.n l.i
-
-abbrev pub decreases-loop-i : goal.decreases-loop-i
-decreases-loop-i l = l.n - l.i
+invariant-loop-i l = Written l.from l.to l.n l.i

@@ -27,19 +27,19 @@ overflow_add-from c = let a = c.args in omega (arith, mul-add a.w a.slot (a.n + 
 pub lay_rows-requires : goal.lay_rows-requires
 lay_rows-requires c =
     let a = c.args in
-    let m = made a.plan.now a.parts.now (length a.room.now) true 0 2 0 (scaled a.n a.w) (rw c.scale-size.ensures at c.target.ensures) c.in-At.is in
+    let m = made a.plan.now a.parts.now (length a.room.now) true 0 2 0 (scaled a.n a.w) (rw c.scale-size.ensures at c.target.ensures) c.in-Some.is in
     record { w_value = c.requires.w_value; n_in_bounds = (c.requires.at_value.1, times_within a.n a.w m (omega arith), omega (arith, mul-add a.w a.slot (a.n + 1), c.requires.fact.2, c.place.ensures, root_is (join a.plan.now a.parts.now a.lengths.now a.places.now a.body.now a.first 0))) }
 
 pub put_row_by_row-requires : goal.put_row_by_row-requires
 put_row_by_row-requires c = record { w_value = c.requires.w_value; fact = c.requires.fact }
 
-pub returns-in-At : goal.returns-in-At
-returns-in-At c =
+pub returns-in-Some : goal.returns-in-Some
+returns-in-Some c =
     let a = c.args in
     let x = join a.plan.now a.parts.now a.lengths.now a.places.now a.body.now a.first 0 in
-    let m = made a.plan.now a.parts.now (length a.room.now) true 0 2 0 (scaled a.n a.w) (rw c.scale-size.ensures at c.target.ensures) c.in-At.is in
+    let m = made a.plan.now a.parts.now (length a.room.now) true 0 2 0 (scaled a.n a.w) (rw c.scale-size.ensures at c.target.ensures) c.in-Some.is in
     subst (λ q. Did a.plan.now a.parts.now true (each (view_row x a.w) a.n 0 a.counters.now) a.room.now 0 a.counters.now q) (sym c.lay_rows.ensures)
     (all_laid x a.w a.at _ _ c.requires.at_value.0 (part_at m.at) (ap₂ (λ y z. y + a.w * z) (c.place.ensures ∙ sym (root_is x)) c.requires.fact.0) a.n a.counters.now a.room.now c.requires.at_value.1 (times_within a.n a.w m (omega (arith, c.well_formed))))
 
-pub returns-in-Skip : goal.returns-in-Skip
-returns-in-Skip c = c.put_row_by_row.ensures
+pub returns-in-None : goal.returns-in-None
+returns-in-None c = c.put_row_by_row.ensures

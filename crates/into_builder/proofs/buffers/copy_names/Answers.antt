@@ -9,7 +9,7 @@ use Rattle.into_builder.proofs.buffers.copy_names.Goals as goal
 pub loop-q-init : goal.loop-q-init
 loop-q-init c =
     let z = c.args in
-    (omega arith, behind_none z.names.now z.at)
+    behind_none z.names.now z.at
 
 pub pair_at-requires : goal.pair_at-requires
 pair_at-requires c = omega arith
@@ -21,25 +21,19 @@ pub offset_bounds-names-at : goal.offset_bounds-names-at
 offset_bounds-names-at c = omega arith
 
 pub bounds-names-at : goal.bounds-names-at
-bounds-names-at c = omega (arith, c.loop-q.invariant.1.same)
-
-pub overflow_add-q : goal.overflow_add-q
-overflow_add-q c = omega arith
-
-pub loop-q-smaller : goal.loop-q-smaller
-loop-q-smaller c = omega arith
+bounds-names-at c = omega (arith, c.loop-q.invariant.same)
 
 pub loop-q-preserved : goal.loop-q-preserved
 loop-q-preserved c =
     let z = c.args in
     let l = c.loop-q in
-    (omega arith, seg_more (λ a. get_or z.buffers.now a 0) z.names.now l.names (2 * z.from) z.at l.q _ (omega arith) l.invariant.1 (c.pair_at.ensures ∙ ap (λ a. get_or z.buffers.now a 0) (omega arith)))
+    seg_more (λ a. get_or z.buffers.now a 0) z.names.now l.names (2 * z.from) z.at l.q _ (omega arith) l.invariant (c.pair_at.ensures ∙ ap (λ a. get_or z.buffers.now a 0) (omega arith))
 
 pub shape_of-names : goal.shape_of-names
-shape_of-names c = c.loop-q.invariant.1.same
+shape_of-names c = c.loop-q.invariant.same
 
 pub returns : goal.returns
 returns c =
     let z = c.args in
     let l = c.loop-q in
-    seg_all (λ a. get_or z.buffers.now a 0) z.names.now l.names (2 * z.from) z.at l.q z.n (omega arith) l.invariant.1
+    seg_all (λ a. get_or z.buffers.now a 0) z.names.now l.names (2 * z.from) z.at l.q z.n (omega arith) l.invariant

@@ -5,7 +5,4 @@ use Rattle.into_builder.specs.buffers.Names.{Behind}
 use Rattle.into_builder.proofs.buffers.copy_names.Given as goal
 
 abbrev pub invariant-loop-q : goal.invariant-loop-q
-invariant-loop-q l = (l.q ≤ l.n) × Behind l.initial.names l.names l.at l.q (seg (λ a. get_or l.buffers a 0) (2 * l.from) l.q)
-
-abbrev pub decreases-loop-q : goal.decreases-loop-q
-decreases-loop-q l = l.n - l.q
+invariant-loop-q l = Behind l.initial.names l.names l.at l.q (seg (λ a. get_or l.buffers a 0) (2 * l.from) l.q)

@@ -9,7 +9,7 @@ use Rattle.into_builder.proofs.buffers.count_before.Goals as goal
 pub loop-i-init : goal.loop-i-init
 loop-i-init c =
     let z = c.args in
-    (omega arith, omega arith, sym (before_none z.plan.now z.sources.now z.places.now))
+    (omega arith, sym (before_none z.plan.now z.sources.now z.places.now))
 
 pub count_at-sum-requires : goal.count_at-sum-requires
 count_at-sum-requires c = omega arith
@@ -17,20 +17,14 @@ count_at-sum-requires c = omega arith
 pub overflow_add-sum : goal.overflow_add-sum
 overflow_add-sum c = omega arith
 
-pub overflow_add-i : goal.overflow_add-i
-overflow_add-i c = omega arith
-
-pub loop-i-smaller : goal.loop-i-smaller
-loop-i-smaller c = omega arith
-
 pub loop-i-preserved : goal.loop-i-preserved
 loop-i-preserved c =
     let z = c.args in
     let l = c.loop-i in
-    (omega arith, omega arith, ap₂ (λ a b. a + b) l.invariant.2 c.count_at-sum.ensures.value ∙ sym (before_more z.plan.now z.sources.now z.places.now l.i))
+    (omega arith, ap₂ (λ a b. a + b) l.invariant.1 c.count_at-sum.ensures.value ∙ sym (before_more z.plan.now z.sources.now z.places.now l.i))
 
 pub returns : goal.returns
 returns c =
     let z = c.args in
     let l = c.loop-i in
-    record { value = l.invariant.2 ∙ ap (count_before z.plan.now z.sources.now z.places.now) (omega arith); upper_bound = omega arith }
+    record { value = l.invariant.1 ∙ ap (count_before z.plan.now z.sources.now z.places.now) (omega arith); upper_bound = omega arith }

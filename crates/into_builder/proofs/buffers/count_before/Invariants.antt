@@ -4,7 +4,4 @@ use Rattle.into_builder.specs.buffers.Names.{count_before}
 use Rattle.into_builder.proofs.buffers.count_before.Given as goal
 
 abbrev pub invariant-loop-i : goal.invariant-loop-i
-invariant-loop-i l = (l.i ≤ l.n) × (l.sum ≤ 528 * l.i) × (l.sum ≡ count_before l.plan l.sources l.places l.i)
-
-abbrev pub decreases-loop-i : goal.decreases-loop-i
-decreases-loop-i l = l.n - l.i
+invariant-loop-i l = (l.sum ≤ 528 * l.i) × (l.sum ≡ count_before l.plan l.sources l.places l.i)

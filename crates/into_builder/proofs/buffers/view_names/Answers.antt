@@ -13,7 +13,7 @@ source_count-m-requires c = omega arith
 pub loop-s-init : goal.loop-s-init
 loop-s-init c =
     let z = c.args in
-    (omega arith, omega (arith, of_none z.plan.now z.sources.now z.places.now z.i), sources_none z.plan.now z.sources.now z.places.now z.buffers.now z.names.now z.at z.i)
+    (omega (arith, of_none z.plan.now z.sources.now z.places.now z.i), sources_none z.plan.now z.sources.now z.places.now z.buffers.now z.names.now z.at z.i)
 
 pub node_of-k-requires : goal.node_of-k-requires
 node_of-k-requires c = omega arith
@@ -33,7 +33,7 @@ copy_names-requires c =
     let l = c.loop-s in
     let h = of_within z.plan.now z.sources.now z.places.now z.i l.s (min (source_count z.plan.now) 16) (omega (arith, c.source_count-m.ensures.value)) in
     let e = c.buffers_of-n.ensures.value ∙ ap (λ a. min (get_or z.places.now (9 * a + 8) 0) 33) c.node_of-k.ensures.value in
-    omega (arith, l.invariant.2.same, c.requires.1)
+    omega (arith, l.invariant.1.same, c.requires.1)
 
 pub overflow_mul-end : goal.overflow_mul-end
 overflow_mul-end c = omega arith
@@ -44,26 +44,20 @@ overflow_add-end c =
     let l = c.loop-s in
     let h = of_within z.plan.now z.sources.now z.places.now z.i l.s (min (source_count z.plan.now) 16) (omega (arith, c.source_count-m.ensures.value)) in
     let e = c.buffers_of-n.ensures.value ∙ ap (λ a. min (get_or z.places.now (9 * a + 8) 0) 33) c.node_of-k.ensures.value in
-    omega (arith, l.invariant.1, c.requires.1)
-
-pub overflow_add-s : goal.overflow_add-s
-overflow_add-s c = omega arith
-
-pub loop-s-smaller : goal.loop-s-smaller
-loop-s-smaller c = omega arith
+    omega (arith, l.invariant.0, c.requires.1)
 
 pub loop-s-preserved : goal.loop-s-preserved
 loop-s-preserved c =
     let z = c.args in
     let l = c.loop-s in
     let e = c.buffers_of-n.ensures.value ∙ ap (λ a. min (get_or z.places.now (9 * a + 8) 0) 33) c.node_of-k.ensures.value in
-    (omega arith, omega (arith, of_more z.plan.now z.sources.now z.places.now z.i l.s, l.invariant.1), sources_more z.plan.now z.sources.now z.places.now z.buffers.now z.i l.s l.invariant.2 l.invariant.1 c.node_of-k.ensures.value c.place-from.ensures c.buffers_of-n.ensures.value c.copy_names.ensures)
+    (omega (arith, of_more z.plan.now z.sources.now z.places.now z.i l.s, l.invariant.0), sources_more z.plan.now z.sources.now z.places.now z.buffers.now z.i l.s l.invariant.1 l.invariant.0 c.node_of-k.ensures.value c.place-from.ensures c.buffers_of-n.ensures.value c.copy_names.ensures)
 
 pub shape_of-names : goal.shape_of-names
-shape_of-names c = c.loop-s.invariant.2.same
+shape_of-names c = c.loop-s.invariant.1.same
 
 pub returns : goal.returns
 returns c =
     let z = c.args in
     let l = c.loop-s in
-    sources_all z.plan.now z.sources.now z.places.now z.buffers.now z.i (omega (arith, c.source_count-m.ensures.value)) l.invariant.2
+    sources_all z.plan.now z.sources.now z.places.now z.buffers.now z.i (omega (arith, c.source_count-m.ensures.value)) l.invariant.1

@@ -6,10 +6,4 @@ use Rattle.into_builder.specs.buffers.Names.{lent, Behind}
 use Rattle.into_builder.proofs.buffers.view_names.Given as goal
 
 abbrev pub invariant-loop-s : goal.invariant-loop-s
-invariant-loop-s l =
-    (l.s ≤ l.m)
-    × (l.end ≡ l.at + 2 * buffers_of (lent l.plan [] l.sources [] l.places []) [] [] [] 0 l.i l.s)
-    × Behind l.initial.names l.names l.at (2 * buffers_of (lent l.plan [] l.sources [] l.places []) [] [] [] 0 l.i l.s) (buffers_from (lent l.plan [] l.sources [] l.places []) l.buffers [] [] 0 l.i l.s)
-
-abbrev pub decreases-loop-s : goal.decreases-loop-s
-decreases-loop-s l = l.m - l.s
+invariant-loop-s l = (l.end ≡ l.at + 2 * buffers_of (lent l.plan [] l.sources [] l.places []) [] [] [] 0 l.i l.s) × Behind l.initial.names l.names l.at (2 * buffers_of (lent l.plan [] l.sources [] l.places []) [] [] [] 0 l.i l.s) (buffers_from (lent l.plan [] l.sources [] l.places []) l.buffers [] [] 0 l.i l.s)

@@ -13,7 +13,7 @@ pub node_count-n-requires : goal.node_count-n-requires
 node_count-n-requires c = omega arith
 
 pub loop-i-init : goal.loop-i-init
-loop-i-init c = (omega arith, refl)
+loop-i-init c = refl
 
 pub kept_in-requires : goal.kept_in-requires
 kept_in-requires c = omega (arith, c.node_count-n.ensures.upper_bound)
@@ -23,18 +23,12 @@ returns-then-not-kept_in c =
     let z = c.args in
     sym (every_false (kept_of z.plan.now z.sources.now z.lengths.now z.places.now z.body.now) (nodes_of z.plan.now) c.loop-i.i (omega (arith, c.node_count-n.ensures.value)) (no c.kept_in.ensures c.if-not-kept_in.true-raw))
 
-pub overflow_add-i : goal.overflow_add-i
-overflow_add-i c = omega arith
-
-pub loop-i-smaller : goal.loop-i-smaller
-loop-i-smaller c = omega arith
-
 pub loop-i-preserved : goal.loop-i-preserved
 loop-i-preserved c =
     let z = c.args in
-    (omega arith, every_one (kept_of z.plan.now z.sources.now z.lengths.now z.places.now z.body.now) c.loop-i.i c.loop-i.invariant.1 (yes c.kept_in.ensures c.if-not-kept_in.false-raw))
+    every_one (kept_of z.plan.now z.sources.now z.lengths.now z.places.now z.body.now) c.loop-i.i c.loop-i.invariant (yes c.kept_in.ensures c.if-not-kept_in.false-raw)
 
 pub returns : goal.returns
 returns c =
     let z = c.args in
-    sym (every_now (kept_of z.plan.now z.sources.now z.lengths.now z.places.now z.body.now) (nodes_of z.plan.now) c.loop-i.i (omega (arith, c.node_count-n.ensures.value)) (omega (arith, c.node_count-n.ensures.value)) c.loop-i.invariant.1)
+    sym (every_now (kept_of z.plan.now z.sources.now z.lengths.now z.places.now z.body.now) (nodes_of z.plan.now) c.loop-i.i (omega (arith, c.node_count-n.ensures.value)) (omega (arith, c.node_count-n.ensures.value)) c.loop-i.invariant)

@@ -6,7 +6,4 @@ use Rattle.into_builder.specs.counts.Counts.{kept_of}
 use Rattle.into_builder.proofs.counts.all_kept.Given as goal
 
 abbrev pub invariant-loop-i : goal.invariant-loop-i
-invariant-loop-i l = (l.i ≤ l.n) × (every (kept_of l.plan l.sources l.lengths l.places l.body) l.i ≡ true)
-
-abbrev pub decreases-loop-i : goal.decreases-loop-i
-decreases-loop-i l = l.n - l.i
+invariant-loop-i l = every (kept_of l.plan l.sources l.lengths l.places l.body) l.i ≡ true

@@ -14,7 +14,7 @@ pub overflow_mul-n : goal.overflow_mul-n
 overflow_mul-n c = omega (arith, c.node_count-n.ensures.upper_bound)
 
 pub loop-q-init : goal.loop-q-init
-loop-q-init c = (omega arith, behind_none c.args.table.now 0)
+loop-q-init c = behind_none c.args.table.now 0
 
 pub length_word-requires : goal.length_word-requires
 length_word-requires c = omega (arith, c.node_count-n.ensures.upper_bound)
@@ -23,26 +23,20 @@ pub offset_bounds-table-q : goal.offset_bounds-table-q
 offset_bounds-table-q c = omega arith
 
 pub bounds-table-q : goal.bounds-table-q
-bounds-table-q c = omega (arith, c.node_count-n.ensures.value, c.loop-q.invariant.1.same)
-
-pub overflow_add-q : goal.overflow_add-q
-overflow_add-q c = omega arith
-
-pub loop-q-smaller : goal.loop-q-smaller
-loop-q-smaller c = omega arith
+bounds-table-q c = omega (arith, c.node_count-n.ensures.value, c.loop-q.invariant.same)
 
 pub loop-q-preserved : goal.loop-q-preserved
 loop-q-preserved c =
     let z = c.args in
     let l = c.loop-q in
-    (omega arith, table_more (length_word z.plan.now z.sources.now z.lengths.now z.counters.now) z.table.now l.table l.q _ (omega (arith, c.node_count-n.ensures.value)) l.invariant.1 c.length_word.ensures)
+    table_more (length_word z.plan.now z.sources.now z.lengths.now z.counters.now) z.table.now l.table l.q _ (omega (arith, c.node_count-n.ensures.value)) l.invariant c.length_word.ensures
 
 pub shape_of-table : goal.shape_of-table
-shape_of-table c = c.loop-q.invariant.1.same
+shape_of-table c = c.loop-q.invariant.same
 
 pub returns : goal.returns
 unfolding length_table
 returns c =
     let z = c.args in
     let l = c.loop-q in
-    table_all (length_word z.plan.now z.sources.now z.lengths.now z.counters.now) z.table.now l.table l.q (2 * nodes_of z.plan.now) (omega (arith, c.node_count-n.ensures.value)) c.requires l.invariant.1
+    table_all (length_word z.plan.now z.sources.now z.lengths.now z.counters.now) z.table.now l.table l.q (2 * nodes_of z.plan.now) (omega (arith, c.node_count-n.ensures.value)) c.requires l.invariant

@@ -5,7 +5,4 @@ use Rattle.into_builder.proofs.counts.Nulls.{length_word}
 use Rattle.into_builder.proofs.counts.write_lengths.Given as goal
 
 abbrev pub invariant-loop-q : goal.invariant-loop-q
-invariant-loop-q l = (l.q ≤ l.n) × Behind l.initial.table l.table 0 l.q (seg (length_word l.plan l.sources l.lengths l.counters) 0 l.q)
-
-abbrev pub decreases-loop-q : goal.decreases-loop-q
-decreases-loop-q l = l.n - l.q
+invariant-loop-q l = Behind l.initial.table l.table 0 l.q (seg (length_word l.plan l.sources l.lengths l.counters) 0 l.q)

@@ -14,7 +14,7 @@ pub node_count-n-requires : goal.node_count-n-requires
 node_count-n-requires c = omega arith
 
 pub loop-i-init : goal.loop-i-init
-loop-i-init c = (omega arith, behind_none c.args.table.now 0)
+loop-i-init c = behind_none c.args.table.now 0
 
 pub nulls_at-requires : goal.nulls_at-requires
 nulls_at-requires c =
@@ -27,26 +27,20 @@ pub offset_bounds-table-i : goal.offset_bounds-table-i
 offset_bounds-table-i c = omega (arith, c.node_count-n.ensures.upper_bound)
 
 pub bounds-table-i : goal.bounds-table-i
-bounds-table-i c = omega (arith, c.node_count-n.ensures.value, c.loop-i.invariant.1.same, c.requires.0)
-
-pub overflow_add-i : goal.overflow_add-i
-overflow_add-i c = omega arith
-
-pub loop-i-smaller : goal.loop-i-smaller
-loop-i-smaller c = omega arith
+bounds-table-i c = omega (arith, c.node_count-n.ensures.value, c.loop-i.invariant.same, c.requires.0)
 
 pub loop-i-preserved : goal.loop-i-preserved
 loop-i-preserved c =
     let z = c.args in
     let l = c.loop-i in
-    (omega arith, table_more (nulls_at (lent z.plan.now z.parts.now z.sources.now z.lengths.now z.places.now z.body.now) [] z.counters.now z.room.now 0) z.table.now l.table l.i _ (omega (arith, c.node_count-n.ensures.value, c.requires.0)) l.invariant.1 c.nulls_at.ensures)
+    table_more (nulls_at (lent z.plan.now z.parts.now z.sources.now z.lengths.now z.places.now z.body.now) [] z.counters.now z.room.now 0) z.table.now l.table l.i _ (omega (arith, c.node_count-n.ensures.value, c.requires.0)) l.invariant c.nulls_at.ensures
 
 pub shape_of-table : goal.shape_of-table
-shape_of-table c = c.loop-i.invariant.1.same
+shape_of-table c = c.loop-i.invariant.same
 
 pub returns : goal.returns
 unfolding null_table
 returns c =
     let z = c.args in
     let l = c.loop-i in
-    table_all (nulls_at (lent z.plan.now z.parts.now z.sources.now z.lengths.now z.places.now z.body.now) [] z.counters.now z.room.now 0) z.table.now l.table l.i (nodes_of z.plan.now) (omega (arith, c.node_count-n.ensures.value)) c.requires.0 l.invariant.1
+    table_all (nulls_at (lent z.plan.now z.parts.now z.sources.now z.lengths.now z.places.now z.body.now) [] z.counters.now z.room.now 0) z.table.now l.table l.i (nodes_of z.plan.now) (omega (arith, c.node_count-n.ensures.value)) c.requires.0 l.invariant

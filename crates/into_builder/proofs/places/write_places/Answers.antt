@@ -16,7 +16,7 @@ pub overflow_mul-n : goal.overflow_mul-n
 overflow_mul-n c = omega (arith, c.node_count-n.ensures.upper_bound)
 
 pub loop-q-init : goal.loop-q-init
-loop-q-init c = (omega arith, refl, λ lengths body buffers room h. behind_none c.args.table.now 0)
+loop-q-init c = λ lengths body buffers room h. behind_none c.args.table.now 0
 
 pub place_at-requires : goal.place_at-requires
 place_at-requires c =
@@ -29,22 +29,16 @@ pub offset_bounds-table-q : goal.offset_bounds-table-q
 offset_bounds-table-q c = omega (arith, c.node_count-n.ensures.upper_bound)
 
 pub bounds-table-q : goal.bounds-table-q
-bounds-table-q c = omega (arith, c.node_count-n.ensures.value, c.loop-q.invariant.1, c.requires.0)
-
-pub overflow_add-q : goal.overflow_add-q
-overflow_add-q c = omega arith
-
-pub loop-q-smaller : goal.loop-q-smaller
-loop-q-smaller c = omega arith
+bounds-table-q c = omega (arith, c.node_count-n.ensures.value, c.loop-q.auto.table, c.requires.0)
 
 pub loop-q-preserved : goal.loop-q-preserved
 loop-q-preserved c =
     let z = c.args in
     let l = c.loop-q in
-    (omega arith, length-set l.table l.q _ ∙ l.invariant.1, λ lengths body buffers room h. table_more (λ a. place_at (lent z.plan.now z.parts.now z.sources.now lengths z.places.now body) buffers z.counters.now room z.base (a / 9) (a % 9)) z.table.now l.table l.q _ (omega (arith, c.node_count-n.ensures.value, c.requires.0)) (l.invariant.2 lengths body buffers room h) (c.place_at.ensures lengths body buffers room h))
+    λ lengths body buffers room h. table_more (λ a. place_at (lent z.plan.now z.parts.now z.sources.now lengths z.places.now body) buffers z.counters.now room z.base (a / 9) (a % 9)) z.table.now l.table l.q _ (omega (arith, c.node_count-n.ensures.value, c.requires.0)) (l.invariant lengths body buffers room h) (c.place_at.ensures lengths body buffers room h)
 
 pub shape_of-table : goal.shape_of-table
-shape_of-table c = c.loop-q.invariant.1
+shape_of-table c = c.loop-q.auto.table
 
 pub returns : goal.returns
 unfolding place_table
@@ -52,4 +46,4 @@ returns c =
     let z = c.args in
     let l = c.loop-q in
     λ lengths body buffers room h.
-    table_all (λ a. place_at (lent z.plan.now z.parts.now z.sources.now lengths z.places.now body) buffers z.counters.now room z.base (a / 9) (a % 9)) z.table.now l.table l.q (9 * nodes_of z.plan.now) (omega (arith, c.node_count-n.ensures.value)) c.requires.0 (l.invariant.2 lengths body buffers room h)
+    table_all (λ a. place_at (lent z.plan.now z.parts.now z.sources.now lengths z.places.now body) buffers z.counters.now room z.base (a / 9) (a % 9)) z.table.now l.table l.q (9 * nodes_of z.plan.now) (omega (arith, c.node_count-n.ensures.value)) c.requires.0 (l.invariant lengths body buffers room h)

@@ -8,31 +8,31 @@ use Rattle.nested_rows.proofs.lookups.Laws.{nullable_none, nullable_here, nullab
 use Rattle.nested_rows.proofs.lookups.nullable_child.Goals as goal
 
 pub loop-t-init : goal.loop-t-init
-loop-t-init c = (search rules, refl)
+loop-t-init c = refl
 
 pub returns-then-end-k : goal.returns-then-end-k
 returns-then-end-k c =
     let a = c.args in
     let l = c.loop-t in
-    record { value = sym (nullable_none a.plan.now a.end l.k (32 - l.t) c.if-end-k.true) ∙ l.invariant.1; upper_bound = omega arith }
+    record { value = sym (nullable_none a.plan.now a.end l.k (32 - l._t) c.if-end-k.true) ∙ l.invariant; upper_bound = omega arith }
 
 pub returns-then-nullable_of-eq1 : goal.returns-then-nullable_of-eq1
 returns-then-nullable_of-eq1 c =
     let a = c.args in
     let l = c.loop-t in
-    let z : 32 - l.t ≡ Prim.Native.Nat.suc (32 - (l.t + 1)) = omega arith in
-    record { value = sym (nullable_here a.plan.now a.end l.k z c.if-end-k.false c.nullable_of.ensures c.if-nullable_of-eq1.true) ∙ l.invariant.1; upper_bound = omega arith }
+    let z : 32 - l._t ≡ Prim.Native.Nat.suc (32 - (l._t + 1)) = omega arith in
+    record { value = sym (nullable_here a.plan.now a.end l.k z c.if-end-k.false c.nullable_of.ensures c.if-nullable_of-eq1.true) ∙ l.invariant; upper_bound = omega arith }
 
 pub loop-t-preserved : goal.loop-t-preserved
 loop-t-preserved c =
     let a = c.args in
     let l = c.loop-t in
-    let z : 32 - l.t ≡ Prim.Native.Nat.suc (32 - (l.t + 1)) = omega arith in
-    (omega arith, sym (nullable_next a.plan.now a.end l.k z c.if-end-k.false c.nullable_of.ensures c.if-nullable_of-eq1.false c.end_of-k.ensures.value) ∙ l.invariant.1)
+    let z : 32 - l._t ≡ Prim.Native.Nat.suc (32 - (l._t + 1)) = omega arith in
+    sym (nullable_next a.plan.now a.end l.k z c.if-end-k.false c.nullable_of.ensures c.if-nullable_of-eq1.false c.end_of-k.ensures.value) ∙ l.invariant
 
 pub returns : goal.returns
 unfolding nullable_child
 returns c =
     let l = c.loop-t in
-    let z : 32 - l.t ≡ 0 = omega arith in
-    record { value = rw z at l.invariant.1; upper_bound = omega arith }
+    let z : 32 - l._t ≡ 0 = omega arith in
+    record { value = rw z at l.invariant; upper_bound = omega arith }

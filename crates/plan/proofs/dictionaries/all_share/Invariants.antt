@@ -7,7 +7,4 @@ use Rattle.plan.specs.dictionaries.Sources.{dict_at}
 use Rattle.plan.proofs.dictionaries.all_share.Given as goal
 
 abbrev pub invariant-loop-s : goal.invariant-loop-s
-invariant-loop-s l = (l.s ≤ l.m - 1) × (shared (suc l.s) (dict_at (tables l.lengths l.places l.body) l.sources l.string l.i) ≡ true)
-
-abbrev pub decreases-loop-s : goal.decreases-loop-s
-decreases-loop-s l = l.m - l.s
+invariant-loop-s l = shared l.s (dict_at (tables l.lengths l.places l.body) l.sources l.string l.i) ≡ true

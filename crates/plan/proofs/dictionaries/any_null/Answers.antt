@@ -10,7 +10,7 @@ use Rattle.plan.proofs.dictionaries.Laws.{count_at_lem, nulls_no, nulls_yes}
 use Rattle.plan.proofs.dictionaries.any_null.Goals as goal
 
 pub loop-s-init : goal.loop-s-init
-loop-s-init c = (omega arith, refl)
+loop-s-init c = refl
 
 pub node_of-k-requires : goal.node_of-k-requires
 node_of-k-requires c = omega arith
@@ -25,20 +25,14 @@ returns-then-null_count-ne0 c =
     let a = c.args in
     sym (nulls_yes (array_at (tables a.lengths.now a.places.now a.body.now) a.sources.now a.i) c.loop-s.s a.m (omega arith) (count_at_lem (tables a.lengths.now a.places.now a.body.now) a.sources.now a.i c.loop-s.s c.null_count.ensures c.node_of-k.ensures.value) c.if-null_count-ne0.true)
 
-pub overflow_add-s : goal.overflow_add-s
-overflow_add-s c = omega arith
-
-pub loop-s-smaller : goal.loop-s-smaller
-loop-s-smaller c = omega arith
-
 pub loop-s-preserved : goal.loop-s-preserved
 loop-s-preserved c =
     let a = c.args in
     let s = c.loop-s.s in
-    (omega arith, rw (add-one s) (nulls_no (array_at (tables a.lengths.now a.places.now a.body.now) a.sources.now a.i) s c.loop-s.invariant.1 (count_at_lem (tables a.lengths.now a.places.now a.body.now) a.sources.now a.i s c.null_count.ensures c.node_of-k.ensures.value) c.if-null_count-ne0.false))
+    rw (add-one s) (nulls_no (array_at (tables a.lengths.now a.places.now a.body.now) a.sources.now a.i) s c.loop-s.invariant (count_at_lem (tables a.lengths.now a.places.now a.body.now) a.sources.now a.i s c.null_count.ensures c.node_of-k.ensures.value) c.if-null_count-ne0.false)
 
 pub returns : goal.returns
 returns c =
     let a = c.args in
     let e : c.loop-s.s ≡ a.m = omega arith in
-    sym (rw e at c.loop-s.invariant.1)
+    sym (rw e at c.loop-s.invariant)

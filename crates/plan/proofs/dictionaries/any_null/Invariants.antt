@@ -7,7 +7,4 @@ use Rattle.plan.specs.dictionaries.Sources.{array_at}
 use Rattle.plan.proofs.dictionaries.any_null.Given as goal
 
 abbrev pub invariant-loop-s : goal.invariant-loop-s
-invariant-loop-s l = (l.s ≤ l.m) × (keeps false l.s (array_at (tables l.lengths l.places l.body) l.sources l.i) ≡ false)
-
-abbrev pub decreases-loop-s : goal.decreases-loop-s
-decreases-loop-s l = l.m - l.s
+invariant-loop-s l = keeps false l.s (array_at (tables l.lengths l.places l.body) l.sources l.i) ≡ false

@@ -12,7 +12,7 @@ use Rattle.plan.proofs.dictionaries.Keys.{sum_more, entries_same}
 use Rattle.plan.proofs.dictionaries.entries_before.Goals as goal
 
 pub loop-s-init : goal.loop-s-init
-loop-s-init c = (omega arith, refl)
+loop-s-init c = refl
 
 pub node_of-k-requires : goal.node_of-k-requires
 node_of-k-requires c = omega arith
@@ -23,20 +23,14 @@ length_of-requires c = omega arith
 pub add_capped-sum-requires : goal.add_capped-sum-requires
 add_capped-sum-requires c = omega arith
 
-pub overflow_add-s : goal.overflow_add-s
-overflow_add-s c = omega arith
-
-pub loop-s-smaller : goal.loop-s-smaller
-loop-s-smaller c = omega arith
-
 pub loop-s-preserved : goal.loop-s-preserved
 loop-s-preserved c =
     let a = c.args in
     let s = c.loop-s.s in
-    (omega arith, rw (add-one s) (sum_more (dict_at (tables a.lengths.now [] []) a.sources.now true a.i) s c.loop-s.invariant.1 (length_at_lem (tables a.lengths.now [] []) a.sources.now a.i s c.length_of.ensures c.node_of-k.ensures.value) c.add_capped-sum.ensures))
+    rw (add-one s) (sum_more (dict_at (tables a.lengths.now [] []) a.sources.now true a.i) s c.loop-s.invariant (length_at_lem (tables a.lengths.now [] []) a.sources.now a.i s c.length_of.ensures c.node_of-k.ensures.value) c.add_capped-sum.ensures)
 
 pub returns : goal.returns
 returns c =
     let a = c.args in
     let e : c.loop-s.s ≡ a.j = omega arith in
-    λ places body string. (rw e at c.loop-s.invariant.1) ∙ ap capped (entries_same (dict_at (tables a.lengths.now [] []) a.sources.now true a.i) (dict_at (tables a.lengths.now places body) a.sources.now string a.i) (λ s. refl) a.j)
+    λ places body string. (rw e at c.loop-s.invariant) ∙ ap capped (entries_same (dict_at (tables a.lengths.now [] []) a.sources.now true a.i) (dict_at (tables a.lengths.now places body) a.sources.now string a.i) (λ s. refl) a.j)

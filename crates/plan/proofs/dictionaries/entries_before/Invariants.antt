@@ -8,7 +8,4 @@ use Rattle.plan.specs.dictionaries.Sources.{dict_at, capped}
 use Rattle.plan.proofs.dictionaries.entries_before.Given as goal
 
 abbrev pub invariant-loop-s : goal.invariant-loop-s
-invariant-loop-s l = (l.s ≤ l.j) × (l.sum ≡ capped (entries_before (dict_at (tables l.lengths [] []) l.sources true l.i) l.s))
-
-abbrev pub decreases-loop-s : goal.decreases-loop-s
-decreases-loop-s l = l.j - l.s
+invariant-loop-s l = l.sum ≡ capped (entries_before (dict_at (tables l.lengths [] []) l.sources true l.i) l.s)

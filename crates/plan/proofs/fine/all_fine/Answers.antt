@@ -10,7 +10,7 @@ pub node_count-n-requires : goal.node_count-n-requires
 node_count-n-requires c = omega arith
 
 pub loop-i-init : goal.loop-i-init
-loop-i-init c = (omega arith, refl)
+loop-i-init c = refl
 
 pub node_fine-requires : goal.node_fine-requires
 node_fine-requires c = omega arith
@@ -18,18 +18,12 @@ node_fine-requires c = omega arith
 pub returns-then-not-node_fine : goal.returns-then-not-node_fine
 returns-then-not-node_fine c = λ z. never z
 
-pub overflow_add-i : goal.overflow_add-i
-overflow_add-i c = omega arith
-
-pub loop-i-smaller : goal.loop-i-smaller
-loop-i-smaller c = omega arith
-
 pub loop-i-preserved : goal.loop-i-preserved
 loop-i-preserved c =
     let a = c.args in
-    (omega arith, nodes_more a.plan.now a.counters.now a.parts.now a.m c.loop-i.i c.loop-i.invariant.1 (c.node_fine.ensures (yes refl c.if-not-node_fine.false-raw)) refl)
+    nodes_more a.plan.now a.counters.now a.parts.now a.m c.loop-i.i c.loop-i.invariant (c.node_fine.ensures (yes refl c.if-not-node_fine.false-raw)) refl
 
 pub returns : goal.returns
 returns c =
     let a = c.args in
-    λ z. nodes_all a.plan.now a.counters.now a.parts.now a.m c.loop-i.i c.node_count-n.result c.node_count-n.ensures.value (omega arith) c.loop-i.invariant.0 c.loop-i.invariant.1
+    λ z. nodes_all a.plan.now a.counters.now a.parts.now a.m c.loop-i.i c.node_count-n.result c.node_count-n.ensures.value (omega arith) (omega arith) c.loop-i.invariant

@@ -6,7 +6,4 @@ use Rattle.plan.proofs.grounds.Laws.{within_at, hold_at}
 use Rattle.plan.proofs.fine.all_fine.Given as goal
 
 abbrev pub invariant-loop-i : goal.invariant-loop-i
-invariant-loop-i l = (l.i ≤ l.n) × (0 ≡ verdict (every (within_at l.plan l.counters l.parts l.m) l.i) (every (hold_at l.plan l.counters l.parts l.m) l.i))
-
-abbrev pub decreases-loop-i : goal.decreases-loop-i
-decreases-loop-i l = l.n - l.i
+invariant-loop-i l = 0 ≡ verdict (every (within_at l.plan l.counters l.parts l.m) l.i) (every (hold_at l.plan l.counters l.parts l.m) l.i)

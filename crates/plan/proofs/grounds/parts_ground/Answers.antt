@@ -12,7 +12,7 @@ pub node_count-n-requires : goal.node_count-n-requires
 node_count-n-requires c = omega arith
 
 pub loop-i-init : goal.loop-i-init
-loop-i-init c = (omega arith, refl)
+loop-i-init c = refl
 
 pub node_ground-requires : goal.node_ground-requires
 node_ground-requires c = omega arith
@@ -20,18 +20,12 @@ node_ground-requires c = omega arith
 pub worse-g-requires : goal.worse-g-requires
 worse-g-requires c = omega arith
 
-pub overflow_add-i : goal.overflow_add-i
-overflow_add-i c = omega arith
-
-pub loop-i-smaller : goal.loop-i-smaller
-loop-i-smaller c = omega arith
-
 pub loop-i-preserved : goal.loop-i-preserved
 loop-i-preserved c =
     let a = c.args in
-    (omega arith, nodes_more a.plan.now a.counters.now a.parts.now a.m c.loop-i.i c.loop-i.invariant.1 c.node_ground.ensures c.worse-g.ensures)
+    nodes_more a.plan.now a.counters.now a.parts.now a.m c.loop-i.i c.loop-i.invariant c.node_ground.ensures c.worse-g.ensures
 
 pub returns : goal.returns
 returns c =
     let a = c.args in
-    nodes_all a.plan.now a.counters.now a.parts.now a.m c.loop-i.i c.node_count-n.result c.node_count-n.ensures.value (omega arith) c.loop-i.invariant.0 c.loop-i.invariant.1
+    nodes_all a.plan.now a.counters.now a.parts.now a.m c.loop-i.i c.node_count-n.result c.node_count-n.ensures.value (omega arith) (omega arith) c.loop-i.invariant

@@ -10,7 +10,7 @@ use Rattle.plan.proofs.parts.Laws.{every_one, every_now}
 use Rattle.plan.proofs.parts.nodes_hold.Goals as goal
 
 pub loop-i-init : goal.loop-i-init
-loop-i-init c = (omega arith, refl)
+loop-i-init c = refl
 
 pub node_holds-requires : goal.node_holds-requires
 node_holds-requires c = omega arith
@@ -18,14 +18,8 @@ node_holds-requires c = omega arith
 pub returns-then-not-node_holds : goal.returns-then-not-node_holds
 returns-then-not-node_holds c = sym (every_false (λ k. every (λ b. part_holds c.args.plan.now c.args.counters.now c.args.parts.now k b) 3) c.args.n c.loop-i.i (omega arith) (no c.node_holds.ensures c.if-not-node_holds.true-raw))
 
-pub overflow_add-i : goal.overflow_add-i
-overflow_add-i c = omega arith
-
-pub loop-i-smaller : goal.loop-i-smaller
-loop-i-smaller c = omega arith
-
 pub loop-i-preserved : goal.loop-i-preserved
-loop-i-preserved c = (omega arith, every_one (λ k. every (λ b. part_holds c.args.plan.now c.args.counters.now c.args.parts.now k b) 3) c.loop-i.i c.loop-i.invariant.1 (yes c.node_holds.ensures c.if-not-node_holds.false-raw))
+loop-i-preserved c = every_one (λ k. every (λ b. part_holds c.args.plan.now c.args.counters.now c.args.parts.now k b) 3) c.loop-i.i c.loop-i.invariant (yes c.node_holds.ensures c.if-not-node_holds.false-raw)
 
 pub returns : goal.returns
-returns c = sym (every_now (λ k. every (λ b. part_holds c.args.plan.now c.args.counters.now c.args.parts.now k b) 3) c.args.n c.loop-i.i (omega arith) (omega arith) c.loop-i.invariant.1)
+returns c = sym (every_now (λ k. every (λ b. part_holds c.args.plan.now c.args.counters.now c.args.parts.now k b) 3) c.args.n c.loop-i.i (omega arith) (omega arith) c.loop-i.invariant)

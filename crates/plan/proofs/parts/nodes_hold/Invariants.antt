@@ -6,7 +6,4 @@ use Rattle.plan.specs.parts.Parts.{part_holds}
 use Rattle.plan.proofs.parts.nodes_hold.Given as goal
 
 abbrev pub invariant-loop-i : goal.invariant-loop-i
-invariant-loop-i l = (l.i ≤ l.n) × (every (λ k. every (λ b. part_holds l.plan l.counters l.parts k b) 3) l.i ≡ true)
-
-abbrev pub decreases-loop-i : goal.decreases-loop-i
-decreases-loop-i l = l.n - l.i
+invariant-loop-i l = every (λ k. every (λ b. part_holds l.plan l.counters l.parts k b) 3) l.i ≡ true

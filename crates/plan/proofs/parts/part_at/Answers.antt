@@ -10,7 +10,7 @@ pub node_count-n-requires : goal.node_count-n-requires
 node_count-n-requires c = omega arith
 
 pub loop-i-init : goal.loop-i-init
-loop-i-init c = (omega arith, ap (λ (x : ℕ). part_from c.args.plan.now x 0 c.args.p) (omega arith))
+loop-i-init c = ap (λ (x : ℕ). part_from c.args.plan.now x 0 c.args.p) (omega arith)
 
 pub part_count-count-requires : goal.part_count-count-requires
 part_count-count-requires c = omega arith
@@ -29,22 +29,16 @@ returns-then-left-count c =
     let a = c.args in
     let l = c.loop-i in
     at_here a.plan.now c.node_count-n.result l.i l.left _ (omega arith) (omega (arith, c.part_count-count.ensures.value)) c.validity_parts.ensures.value
-    ∙ l.invariant.1
+    ∙ l.invariant
     ∙ ap (λ (x : ℕ). part_from a.plan.now x 0 a.p) c.node_count-n.ensures.value
-
-pub overflow_add-i : goal.overflow_add-i
-overflow_add-i c = omega arith
-
-pub loop-i-smaller : goal.loop-i-smaller
-loop-i-smaller c = omega arith
 
 pub loop-i-preserved : goal.loop-i-preserved
 loop-i-preserved c =
     let l = c.loop-i in
-    (omega arith, sym (at_later c.args.plan.now c.node_count-n.result l.i l.left _ (omega arith) c.part_count-count.ensures.value (omega arith)) ∙ l.invariant.1)
+    sym (at_later c.args.plan.now c.node_count-n.result l.i l.left _ (omega arith) c.part_count-count.ensures.value (omega arith)) ∙ l.invariant
 
 pub returns : goal.returns
 returns c =
     let a = c.args in
     let l = c.loop-i in
-    sym (at_end a.plan.now c.node_count-n.result l.i l.left (omega arith)) ∙ l.invariant.1 ∙ ap (λ (x : ℕ). part_from a.plan.now x 0 a.p) c.node_count-n.ensures.value
+    sym (at_end a.plan.now c.node_count-n.result l.i l.left (omega arith)) ∙ l.invariant ∙ ap (λ (x : ℕ). part_from a.plan.now x 0 a.p) c.node_count-n.ensures.value

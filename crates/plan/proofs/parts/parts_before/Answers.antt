@@ -8,7 +8,7 @@ use Rattle.plan.proofs.parts.parts_before.Goals as goal
 
 pub loop-k-init : goal.loop-k-init
 unfolding parts_before
-loop-k-init c = (omega arith, omega arith, refl)
+loop-k-init c = (omega arith, refl)
 
 pub part_count-sum-requires : goal.part_count-sum-requires
 part_count-sum-requires c = omega arith
@@ -16,14 +16,8 @@ part_count-sum-requires c = omega arith
 pub overflow_add-sum : goal.overflow_add-sum
 overflow_add-sum c = omega arith
 
-pub overflow_add-k : goal.overflow_add-k
-overflow_add-k c = omega arith
-
-pub loop-k-smaller : goal.loop-k-smaller
-loop-k-smaller c = omega arith
-
 pub loop-k-preserved : goal.loop-k-preserved
-loop-k-preserved c = (omega arith, omega arith, before_one c.args.plan.now c.loop-k.k _ _ c.loop-k.invariant.2 c.part_count-sum.ensures.value)
+loop-k-preserved c = (omega arith, before_one c.args.plan.now c.loop-k.k _ _ c.loop-k.invariant.1 c.part_count-sum.ensures.value)
 
 pub returns : goal.returns
-returns c = record { value = c.loop-k.invariant.2 ∙ ap (parts_before c.args.plan.now) (omega arith); upper_bound = omega arith }
+returns c = record { value = c.loop-k.invariant.1 ∙ ap (parts_before c.args.plan.now) (omega arith); upper_bound = omega arith }

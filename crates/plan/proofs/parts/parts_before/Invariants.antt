@@ -4,7 +4,4 @@ use Rattle.plan.specs.parts.Parts.{parts_before}
 use Rattle.plan.proofs.parts.parts_before.Given as goal
 
 abbrev pub invariant-loop-k : goal.invariant-loop-k
-invariant-loop-k l = (l.k ≤ l.i) × (l.sum ≤ 3 * l.k) × (l.sum ≡ parts_before l.plan l.k)
-
-abbrev pub decreases-loop-k : goal.decreases-loop-k
-decreases-loop-k l = l.i - l.k
+invariant-loop-k l = (l.sum ≤ 3 * l.k) × (l.sum ≡ parts_before l.plan l.k)

@@ -13,7 +13,7 @@ pub node_count-n-requires : goal.node_count-n-requires
 node_count-n-requires c = omega arith
 
 pub loop-i-init : goal.loop-i-init
-loop-i-init c = (omega arith, refl)
+loop-i-init c = refl
 
 pub node_within-requires : goal.node_within-requires
 node_within-requires c = omega arith
@@ -22,15 +22,9 @@ pub returns-then-not-node_within : goal.returns-then-not-node_within
 unfolding parts_within
 returns-then-not-node_within c = sym (every_false (λ k. every (λ b. part_within c.args.plan.now c.args.parts.now c.args.m k b) 3) (nodes_of c.args.plan.now) c.loop-i.i (omega (arith, c.node_count-n.ensures.value)) (no c.node_within.ensures c.if-not-node_within.true-raw))
 
-pub overflow_add-i : goal.overflow_add-i
-overflow_add-i c = omega arith
-
-pub loop-i-smaller : goal.loop-i-smaller
-loop-i-smaller c = omega arith
-
 pub loop-i-preserved : goal.loop-i-preserved
-loop-i-preserved c = (omega arith, every_one (λ k. every (λ b. part_within c.args.plan.now c.args.parts.now c.args.m k b) 3) c.loop-i.i c.loop-i.invariant.1 (yes c.node_within.ensures c.if-not-node_within.false-raw))
+loop-i-preserved c = every_one (λ k. every (λ b. part_within c.args.plan.now c.args.parts.now c.args.m k b) 3) c.loop-i.i c.loop-i.invariant (yes c.node_within.ensures c.if-not-node_within.false-raw)
 
 pub returns : goal.returns
 unfolding parts_within
-returns c = sym (every_now (λ k. every (λ b. part_within c.args.plan.now c.args.parts.now c.args.m k b) 3) (nodes_of c.args.plan.now) c.loop-i.i (omega (arith, c.node_count-n.ensures.value)) (omega (arith, c.node_count-n.ensures.value)) c.loop-i.invariant.1)
+returns c = sym (every_now (λ k. every (λ b. part_within c.args.plan.now c.args.parts.now c.args.m k b) 3) (nodes_of c.args.plan.now) c.loop-i.i (omega (arith, c.node_count-n.ensures.value)) (omega (arith, c.node_count-n.ensures.value)) c.loop-i.invariant)

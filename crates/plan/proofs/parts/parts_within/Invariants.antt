@@ -6,7 +6,4 @@ use Rattle.plan.specs.parts.Parts.{part_within}
 use Rattle.plan.proofs.parts.parts_within.Given as goal
 
 abbrev pub invariant-loop-i : goal.invariant-loop-i
-invariant-loop-i l = (l.i ≤ l.n) × (every (λ k. every (λ b. part_within l.plan l.parts l.m k b) 3) l.i ≡ true)
-
-abbrev pub decreases-loop-i : goal.decreases-loop-i
-decreases-loop-i l = l.n - l.i
+invariant-loop-i l = every (λ k. every (λ b. part_within l.plan l.parts l.m k b) 3) l.i ≡ true

@@ -10,7 +10,7 @@ use Rattle.plan.proofs.parts.Laws.{every_one, every_now}
 use Rattle.plan.proofs.placed.all_apart.Goals as goal
 
 pub loop-p-init : goal.loop-p-init
-loop-p-init c = (omega arith, refl)
+loop-p-init c = refl
 
 pub is_apart-requires : goal.is_apart-requires
 is_apart-requires c = omega arith
@@ -18,14 +18,8 @@ is_apart-requires c = omega arith
 pub returns-then-not-is_apart : goal.returns-then-not-is_apart
 returns-then-not-is_apart c = sym (every_false (λ r. every (λ q. apart c.args.parts.now r q) r) c.args.count c.loop-p.p (omega arith) (no c.is_apart.ensures c.if-not-is_apart.true-raw))
 
-pub overflow_add-p : goal.overflow_add-p
-overflow_add-p c = omega arith
-
-pub loop-p-smaller : goal.loop-p-smaller
-loop-p-smaller c = omega arith
-
 pub loop-p-preserved : goal.loop-p-preserved
-loop-p-preserved c = (omega arith, every_one (λ r. every (λ q. apart c.args.parts.now r q) r) c.loop-p.p c.loop-p.invariant.1 (yes c.is_apart.ensures c.if-not-is_apart.false-raw))
+loop-p-preserved c = every_one (λ r. every (λ q. apart c.args.parts.now r q) r) c.loop-p.p c.loop-p.invariant (yes c.is_apart.ensures c.if-not-is_apart.false-raw)
 
 pub returns : goal.returns
-returns c = sym (every_now (λ r. every (λ q. apart c.args.parts.now r q) r) c.args.count c.loop-p.p (omega arith) (omega arith) c.loop-p.invariant.1)
+returns c = sym (every_now (λ r. every (λ q. apart c.args.parts.now r q) r) c.args.count c.loop-p.p (omega arith) (omega arith) c.loop-p.invariant)

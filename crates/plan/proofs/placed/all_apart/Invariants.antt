@@ -6,7 +6,4 @@ use Rattle.plan.specs.parts.Parts.{apart}
 use Rattle.plan.proofs.placed.all_apart.Given as goal
 
 abbrev pub invariant-loop-p : goal.invariant-loop-p
-invariant-loop-p l = (l.p ≤ l.count) × (every (λ r. every (λ q. apart l.parts r q) r) l.p ≡ true)
-
-abbrev pub decreases-loop-p : goal.decreases-loop-p
-decreases-loop-p l = l.count - l.p
+invariant-loop-p l = every (λ r. every (λ q. apart l.parts r q) r) l.p ≡ true

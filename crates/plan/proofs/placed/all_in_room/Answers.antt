@@ -9,7 +9,7 @@ use Rattle.plan.proofs.parts.Laws.{every_one, every_now}
 use Rattle.plan.proofs.placed.all_in_room.Goals as goal
 
 pub loop-p-init : goal.loop-p-init
-loop-p-init c = (omega arith, refl)
+loop-p-init c = refl
 
 pub in_room-requires : goal.in_room-requires
 in_room-requires c = omega arith
@@ -17,14 +17,8 @@ in_room-requires c = omega arith
 pub returns-then-not-in_room : goal.returns-then-not-in_room
 returns-then-not-in_room c = sym (every_false (in_room c.args.parts.now c.args.m) c.args.count c.loop-p.p (omega arith) (no c.in_room.ensures c.if-not-in_room.true-raw))
 
-pub overflow_add-p : goal.overflow_add-p
-overflow_add-p c = omega arith
-
-pub loop-p-smaller : goal.loop-p-smaller
-loop-p-smaller c = omega arith
-
 pub loop-p-preserved : goal.loop-p-preserved
-loop-p-preserved c = (omega arith, every_one (in_room c.args.parts.now c.args.m) c.loop-p.p c.loop-p.invariant.1 (yes c.in_room.ensures c.if-not-in_room.false-raw))
+loop-p-preserved c = every_one (in_room c.args.parts.now c.args.m) c.loop-p.p c.loop-p.invariant (yes c.in_room.ensures c.if-not-in_room.false-raw)
 
 pub returns : goal.returns
-returns c = sym (every_now (in_room c.args.parts.now c.args.m) c.args.count c.loop-p.p (omega arith) (omega arith) c.loop-p.invariant.1)
+returns c = sym (every_now (in_room c.args.parts.now c.args.m) c.args.count c.loop-p.p (omega arith) (omega arith) c.loop-p.invariant)

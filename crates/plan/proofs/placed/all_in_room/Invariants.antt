@@ -6,7 +6,4 @@ use Rattle.plan.specs.parts.Parts.{in_room}
 use Rattle.plan.proofs.placed.all_in_room.Given as goal
 
 abbrev pub invariant-loop-p : goal.invariant-loop-p
-invariant-loop-p l = (l.p ≤ l.count) × (every (in_room l.parts l.m) l.p ≡ true)
-
-abbrev pub decreases-loop-p : goal.decreases-loop-p
-decreases-loop-p l = l.count - l.p
+invariant-loop-p l = every (in_room l.parts l.m) l.p ≡ true

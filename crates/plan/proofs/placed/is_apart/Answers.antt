@@ -9,7 +9,7 @@ use Rattle.plan.proofs.parts.Laws.{every_one, every_now}
 use Rattle.plan.proofs.placed.is_apart.Goals as goal
 
 pub loop-q-init : goal.loop-q-init
-loop-q-init c = (omega arith, refl)
+loop-q-init c = refl
 
 pub are_apart-requires : goal.are_apart-requires
 are_apart-requires c = omega arith
@@ -17,14 +17,8 @@ are_apart-requires c = omega arith
 pub returns-then-not-are_apart : goal.returns-then-not-are_apart
 returns-then-not-are_apart c = sym (every_false (λ r. apart c.args.parts.now c.args.p r) c.args.p c.loop-q.q (omega arith) (no c.are_apart.ensures c.if-not-are_apart.true-raw))
 
-pub overflow_add-q : goal.overflow_add-q
-overflow_add-q c = omega arith
-
-pub loop-q-smaller : goal.loop-q-smaller
-loop-q-smaller c = omega arith
-
 pub loop-q-preserved : goal.loop-q-preserved
-loop-q-preserved c = (omega arith, every_one (λ r. apart c.args.parts.now c.args.p r) c.loop-q.q c.loop-q.invariant.1 (yes c.are_apart.ensures c.if-not-are_apart.false-raw))
+loop-q-preserved c = every_one (λ r. apart c.args.parts.now c.args.p r) c.loop-q.q c.loop-q.invariant (yes c.are_apart.ensures c.if-not-are_apart.false-raw)
 
 pub returns : goal.returns
-returns c = sym (every_now (λ r. apart c.args.parts.now c.args.p r) c.args.p c.loop-q.q (omega arith) (omega arith) c.loop-q.invariant.1)
+returns c = sym (every_now (λ r. apart c.args.parts.now c.args.p r) c.args.p c.loop-q.q (omega arith) (omega arith) c.loop-q.invariant)

@@ -6,7 +6,4 @@ use Rattle.plan.specs.parts.Parts.{apart}
 use Rattle.plan.proofs.placed.is_apart.Given as goal
 
 abbrev pub invariant-loop-q : goal.invariant-loop-q
-invariant-loop-q l = (l.q ≤ l.p) × (every (λ r. apart l.parts l.p r) l.q ≡ true)
-
-abbrev pub decreases-loop-q : goal.decreases-loop-q
-decreases-loop-q l = l.p - l.q
+invariant-loop-q l = every (λ r. apart l.parts l.p r) l.q ≡ true

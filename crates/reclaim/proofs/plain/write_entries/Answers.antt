@@ -74,16 +74,16 @@ overflow_add-from c = omega (arith, from_in (alone c.args.plan.now c.args.length
 pub write_used-requires : goal.write_used-requires
 write_used-requires c =
     let a = c.args in
-    let m = made a.plan.now a.parts.now (length a.room.now) true 1 1 c.scale.result c.scale-2.result c.target.ensures c.in-At.is in
+    let m = made a.plan.now a.parts.now (length a.room.now) true 1 1 c.scale.result c.scale-2.result c.target.ensures c.in-Some.is in
     let f = fits (start_of a.plan.now a.parts.now 1 1) a.have a.n c.width_at-w.result (length a.room.now) _ c.scale.ensures c.scale-2.ensures m (omega (arith, c.well_formed)) in
     let z = those_are (alone c.args.plan.now c.args.lengths.now c.args.places.now c.args.body.now c.args.first) c.args.ranks.now c.args.base c.args.count c.requires.first_bound.2 c.width_at-w.ensures c.place.ensures c.offset_of.ensures in
     let to : start_of a.plan.now a.parts.now 1 1 + a.have * c.width_at-w.result + bytes_of a.plan.now 1 * a.n ≤ length a.room.now = omega (arith, f.1, ap (λ v. v * a.n) c.width_at-w.ensures) in
     (key_width (alone c.args.plan.now c.args.lengths.now c.args.places.now c.args.body.now c.args.first) c.args.ranks.now c.args.base c.args.count c.requires.first_bound.2 c.width_at-w.ensures c.place.ensures c.offset_of.ensures, c.requires.first_bound.1, ends_in (alone c.args.plan.now c.args.lengths.now c.args.places.now c.args.body.now c.args.first) c.args.ranks.now c.args.base c.args.count c.requires.first_bound.2 c.width_at-w.ensures c.place.ensures c.offset_of.ensures, omega (arith, to, ap length z, c.requires.count_value))
 
-pub returns-in-At : goal.returns-in-At
-returns-in-At c =
+pub returns-in-Some : goal.returns-in-Some
+returns-in-Some c =
     let a = c.args in
-    let m = made a.plan.now a.parts.now (length a.room.now) true 1 1 c.scale.result c.scale-2.result c.target.ensures c.in-At.is in
+    let m = made a.plan.now a.parts.now (length a.room.now) true 1 1 c.scale.result c.scale-2.result c.target.ensures c.in-Some.is in
     let f = fits (start_of a.plan.now a.parts.now 1 1) a.have a.n c.width_at-w.result (length a.room.now) _ c.scale.ensures c.scale-2.ensures m (omega (arith, c.well_formed)) in
     let e = c.width_at-w.ensures in
     let h = is_true a.write c.if-not-write.false-raw in record {
@@ -94,5 +94,5 @@ returns-in-At c =
       room_value = λ z. absurd (false≢true (sym z));
     }
 
-pub returns-in-Skip : goal.returns-in-Skip
-returns-in-Skip c = record { stand = (λ z. absurd (false≢true z)); room_value = λ z. refl }
+pub returns-in-None : goal.returns-in-None
+returns-in-None c = record { stand = (λ z. absurd (false≢true z)); room_value = λ z. refl }

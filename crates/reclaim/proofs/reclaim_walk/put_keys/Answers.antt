@@ -25,18 +25,18 @@ write_keys-requires c =
     let x = join a.plan.now [] a.lengths.now a.places.now a.body.now a.first 0 in
     let w = c.width_at-w in
     let n = c.length_of-n in
-    let m = made a.plan.now a.parts.now (length a.room.now) a.write 0 1 0 (scaled n.result w.result) (rw c.scale.ensures at c.target.ensures) c.in-At.is in
+    let m = made a.plan.now a.parts.now (length a.room.now) a.write 0 1 0 (scaled n.result w.result) (rw c.scale.ensures at c.target.ensures) c.in-Some.is in
     let p = c.requires in
     record { first_bound = p.first_bound; head = p.head; first_in_bounds = keys_room x m (omega (arith, c.well_formed)) w.ensures (n.ensures ∙ length_zero x) }
 
-pub returns-in-At : goal.returns-in-At
-returns-in-At c =
+pub returns-in-Some : goal.returns-in-Some
+returns-in-Some c =
     let a = c.args in
     let x = join a.plan.now [] a.lengths.now a.places.now a.body.now a.first 0 in
-    put_at a.plan.now a.parts.now a.write 0 1 0 (new_keys (keys_of x) (length_of x 1)) a.room.now (omega (arith, c.well_formed)) c.target.ensures c.in-At.is (subst (λ z. Alike z (length (new_keys (keys_of x) (length_of x 1)))) (sym c.scale.ensures) (alike_sized c.length_of-n.result c.width_at-w.result (length_new (keys_of x) (length_of x 1) ∙ ap₂ ◌*◌ (sym c.width_at-w.ensures) (sym (c.length_of-n.ensures ∙ length_zero x))))) c.write_keys.ensures
+    put_at a.plan.now a.parts.now a.write 0 1 0 (new_keys (keys_of x) (length_of x 1)) a.room.now (omega (arith, c.well_formed)) c.target.ensures c.in-Some.is (subst (λ z. Alike z (length (new_keys (keys_of x) (length_of x 1)))) (sym c.scale.ensures) (alike_sized c.length_of-n.result c.width_at-w.result (length_new (keys_of x) (length_of x 1) ∙ ap₂ ◌*◌ (sym c.width_at-w.ensures) (sym (c.length_of-n.ensures ∙ length_zero x))))) c.write_keys.ensures
 
-pub returns-in-Skip : goal.returns-in-Skip
-returns-in-Skip c =
+pub returns-in_default : goal.returns-in_default
+returns-in_default c =
     let a = c.args in
     let x = join a.plan.now [] a.lengths.now a.places.now a.body.now a.first 0 in
-    put_skip a.plan.now a.parts.now a.write 0 1 0 (new_keys (keys_of x) (length_of x 1)) a.room.now (omega arith) c.target.ensures c.in-Skip.is (subst (λ z. Alike z (length (new_keys (keys_of x) (length_of x 1)))) (sym c.scale.ensures) (alike_sized c.length_of-n.result c.width_at-w.result (length_new (keys_of x) (length_of x 1) ∙ ap₂ ◌*◌ (sym c.width_at-w.ensures) (sym (c.length_of-n.ensures ∙ length_zero x)))))
+    put_skip a.plan.now a.parts.now a.write 0 1 0 (new_keys (keys_of x) (length_of x 1)) a.room.now (omega arith) c.target.ensures c.in_default.is (subst (λ z. Alike z (length (new_keys (keys_of x) (length_of x 1)))) (sym c.scale.ensures) (alike_sized c.length_of-n.result c.width_at-w.result (length_new (keys_of x) (length_of x 1) ∙ ap₂ ◌*◌ (sym c.width_at-w.ensures) (sym (c.length_of-n.ensures ∙ length_zero x)))))

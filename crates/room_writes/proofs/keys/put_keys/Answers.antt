@@ -17,14 +17,14 @@ scale-requires c =
 pub write_keys-requires : goal.write_keys-requires
 write_keys-requires c =
     let a = c.args in
-    record { n_in_bounds = (omega (arith, times_within a.n a.w (made a.plan.now a.parts.now (length a.room.now) a.write a.i a.b a.o (scaled a.n a.w) (rw c.scale.ensures at c.target.ensures) c.in-At.is) (omega arith)), omega arith); w_value = c.requires.w_value; w_value_2 = c.requires.w_value_2 ∙ sym (ap width_of c.code_of-code.ensures) }
+    record { n_in_bounds = (omega (arith, times_within a.n a.w (made a.plan.now a.parts.now (length a.room.now) a.write a.i a.b a.o (scaled a.n a.w) (rw c.scale.ensures at c.target.ensures) c.in-Some.is) (omega arith)), omega arith); w_value = c.requires.w_value; w_value_2 = c.requires.w_value_2 ∙ sym (ap width_of c.code_of-code.ensures) }
 
-pub returns-in-At : goal.returns-in-At
-returns-in-At c =
+pub returns-in-Some : goal.returns-in-Some
+returns-in-Some c =
     let a = c.args in
-    put_at a.plan.now a.parts.now a.write a.i a.b a.o (rebased a.w a.body.now a.from a.base a.n) a.room.now (omega arith) (rw c.scale.ensures at c.target.ensures) c.in-At.is (alike_sized a.n a.w (length_rebased a.w a.body.now a.from a.base a.n)) c.write_keys.ensures
+    put_at a.plan.now a.parts.now a.write a.i a.b a.o (rebased a.w a.body.now a.from a.base a.n) a.room.now (omega arith) (rw c.scale.ensures at c.target.ensures) c.in-Some.is (alike_sized a.n a.w (length_rebased a.w a.body.now a.from a.base a.n)) c.write_keys.ensures
 
-pub returns-in-Skip : goal.returns-in-Skip
-returns-in-Skip c =
+pub returns-in_default : goal.returns-in_default
+returns-in_default c =
     let a = c.args in
-    put_skip a.plan.now a.parts.now a.write a.i a.b a.o (rebased a.w a.body.now a.from a.base a.n) a.room.now (omega arith) (rw c.scale.ensures at c.target.ensures) c.in-Skip.is (alike_sized a.n a.w (length_rebased a.w a.body.now a.from a.base a.n))
+    put_skip a.plan.now a.parts.now a.write a.i a.b a.o (rebased a.w a.body.now a.from a.base a.n) a.room.now (omega arith) (rw c.scale.ensures at c.target.ensures) c.in_default.is (alike_sized a.n a.w (length_rebased a.w a.body.now a.from a.base a.n))

@@ -16,14 +16,14 @@ scale-requires c =
 pub write_run_ends-requires : goal.write_run_ends-requires
 write_run_ends-requires c =
     let a = c.args in
-    record { n_in_bounds = (omega (arith, times_within a.n a.w (made a.plan.now a.parts.now (length a.room.now) a.write a.i a.b a.o (scaled a.n a.w) (rw c.scale.ensures at c.target.ensures) c.in-At.is) (omega arith)), omega arith, c.requires.i_bound.3); w_value = c.requires.w_value }
+    record { n_in_bounds = (omega (arith, times_within a.n a.w (made a.plan.now a.parts.now (length a.room.now) a.write a.i a.b a.o (scaled a.n a.w) (rw c.scale.ensures at c.target.ensures) c.in-Some.is) (omega arith)), omega arith, c.requires.i_bound.3); w_value = c.requires.w_value }
 
-pub returns-in-At : goal.returns-in-At
-returns-in-At c =
+pub returns-in-Some : goal.returns-in-Some
+returns-in-Some c =
     let a = c.args in
-    put_at a.plan.now a.parts.now a.write a.i a.b a.o (clipped a.w a.body.now a.from a.n a.start.0 a.end.0 a.last) a.room.now (omega arith) (rw c.scale.ensures at c.target.ensures) c.in-At.is (alike_sized a.n a.w (length_clipped a.w a.body.now a.from a.start.0 a.end.0 a.last a.n)) c.write_run_ends.ensures
+    put_at a.plan.now a.parts.now a.write a.i a.b a.o (clipped a.w a.body.now a.from a.n a.start.0 a.end.0 a.last) a.room.now (omega arith) (rw c.scale.ensures at c.target.ensures) c.in-Some.is (alike_sized a.n a.w (length_clipped a.w a.body.now a.from a.start.0 a.end.0 a.last a.n)) c.write_run_ends.ensures
 
-pub returns-in-Skip : goal.returns-in-Skip
-returns-in-Skip c =
+pub returns-in_default : goal.returns-in_default
+returns-in_default c =
     let a = c.args in
-    put_skip a.plan.now a.parts.now a.write a.i a.b a.o (clipped a.w a.body.now a.from a.n a.start.0 a.end.0 a.last) a.room.now (omega arith) (rw c.scale.ensures at c.target.ensures) c.in-Skip.is (alike_sized a.n a.w (length_clipped a.w a.body.now a.from a.start.0 a.end.0 a.last a.n))
+    put_skip a.plan.now a.parts.now a.write a.i a.b a.o (clipped a.w a.body.now a.from a.n a.start.0 a.end.0 a.last) a.room.now (omega arith) (rw c.scale.ensures at c.target.ensures) c.in_default.is (alike_sized a.n a.w (length_clipped a.w a.body.now a.from a.start.0 a.end.0 a.last a.n))

@@ -14,14 +14,14 @@ use Rattle.room_writes.proofs.variable_size.put_counted.Goals as goal
 pub count_up_i32-requires : goal.count_up_i32-requires
 count_up_i32-requires c =
     let a = c.args in
-    omega (arith, times_within a.n (4) (made a.plan.now a.parts.now (length a.room.now) a.write a.i a.b a.o (scaled a.n (4)) (rw c.scale.ensures at c.target.ensures) c.in-At.is) (omega arith))
+    omega (arith, times_within a.n (4) (made a.plan.now a.parts.now (length a.room.now) a.write a.i a.b a.o (scaled a.n (4)) (rw c.scale.ensures at c.target.ensures) c.in-Some.is) (omega arith))
 
-pub returns-in-At : goal.returns-in-At
-returns-in-At c =
+pub returns-in-Some : goal.returns-in-Some
+returns-in-Some c =
     let a = c.args in
-    put_at a.plan.now a.parts.now a.write a.i a.b a.o (counted_up 4 a.first a.n) a.room.now (omega arith) (rw c.scale.ensures at c.target.ensures) c.in-At.is (alike_sized a.n (4) (length_counted 4 a.room.now 0 a.first a.n)) (c.count_up_i32.ensures ∙ ap (λ (z : List ℕ). splice c.in-At.at z a.room.now) (counted_cut 4 a.room.now 0 a.first a.n))
+    put_at a.plan.now a.parts.now a.write a.i a.b a.o (counted_up 4 a.first a.n) a.room.now (omega arith) (rw c.scale.ensures at c.target.ensures) c.in-Some.is (alike_sized a.n (4) (length_counted 4 a.room.now 0 a.first a.n)) (c.count_up_i32.ensures ∙ ap (λ (z : List ℕ). splice c.in-Some.at z a.room.now) (counted_cut 4 a.room.now 0 a.first a.n))
 
-pub returns-in-Skip : goal.returns-in-Skip
-returns-in-Skip c =
+pub returns-in_default : goal.returns-in_default
+returns-in_default c =
     let a = c.args in
-    put_skip a.plan.now a.parts.now a.write a.i a.b a.o (counted_up 4 a.first a.n) a.room.now (omega arith) (rw c.scale.ensures at c.target.ensures) c.in-Skip.is (alike_sized a.n (4) (length_counted 4 a.room.now 0 a.first a.n))
+    put_skip a.plan.now a.parts.now a.write a.i a.b a.o (counted_up 4 a.first a.n) a.room.now (omega arith) (rw c.scale.ensures at c.target.ensures) c.in_default.is (alike_sized a.n (4) (length_counted 4 a.room.now 0 a.first a.n))

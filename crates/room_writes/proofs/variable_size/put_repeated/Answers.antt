@@ -15,14 +15,14 @@ scale-requires c =
 pub write_repeated-requires : goal.write_repeated-requires
 write_repeated-requires c =
     let a = c.args in
-    record { n_in_bounds = omega (arith, times_within a.n a.w (made a.plan.now a.parts.now (length a.room.now) a.write a.i a.b a.o (scaled a.n a.w) (rw c.scale.ensures at c.target.ensures) c.in-At.is) (omega arith)); w_value = c.requires.w_value }
+    record { n_in_bounds = omega (arith, times_within a.n a.w (made a.plan.now a.parts.now (length a.room.now) a.write a.i a.b a.o (scaled a.n a.w) (rw c.scale.ensures at c.target.ensures) c.in-Some.is) (omega arith)); w_value = c.requires.w_value }
 
-pub returns-in-At : goal.returns-in-At
-returns-in-At c =
+pub returns-in-Some : goal.returns-in-Some
+returns-in-Some c =
     let a = c.args in
-    put_at a.plan.now a.parts.now a.write a.i a.b a.o (repeated a.w a.v a.n) a.room.now (omega arith) (rw c.scale.ensures at c.target.ensures) c.in-At.is (alike_sized a.n a.w (length_repeated a.w a.room.now 0 a.v a.n)) c.write_repeated.ensures
+    put_at a.plan.now a.parts.now a.write a.i a.b a.o (repeated a.w a.v a.n) a.room.now (omega arith) (rw c.scale.ensures at c.target.ensures) c.in-Some.is (alike_sized a.n a.w (length_repeated a.w a.room.now 0 a.v a.n)) c.write_repeated.ensures
 
-pub returns-in-Skip : goal.returns-in-Skip
-returns-in-Skip c =
+pub returns-in_default : goal.returns-in_default
+returns-in_default c =
     let a = c.args in
-    put_skip a.plan.now a.parts.now a.write a.i a.b a.o (repeated a.w a.v a.n) a.room.now (omega arith) (rw c.scale.ensures at c.target.ensures) c.in-Skip.is (alike_sized a.n a.w (length_repeated a.w a.room.now 0 a.v a.n))
+    put_skip a.plan.now a.parts.now a.write a.i a.b a.o (repeated a.w a.v a.n) a.room.now (omega arith) (rw c.scale.ensures at c.target.ensures) c.in_default.is (alike_sized a.n a.w (length_repeated a.w a.room.now 0 a.v a.n))

@@ -5,7 +5,7 @@ use Rattle.sound.proofs.trying.Laws.{filled_none, filled_more, filled_all}
 use Rattle.sound.proofs.trying.uncount.Goals as goal
 
 pub loop-i-init : goal.loop-i-init
-loop-i-init c = (omega arith, filled_none c.args.counters.now)
+loop-i-init c = filled_none c.args.counters.now
 
 pub overflow_mul-counters : goal.overflow_mul-counters
 overflow_mul-counters c = omega arith
@@ -16,18 +16,12 @@ overflow_add-counters c = omega arith
 pub offset_bounds-counters-i : goal.offset_bounds-counters-i
 offset_bounds-counters-i c = omega arith
 
-pub overflow_add-i : goal.overflow_add-i
-overflow_add-i c = omega arith
-
-pub loop-i-smaller : goal.loop-i-smaller
-loop-i-smaller c = omega arith
-
 pub loop-i-preserved : goal.loop-i-preserved
 loop-i-preserved c =
     let l = c.loop-i in
-    (omega arith, filled_more c.args.counters.now l.counters l.i (omega arith) l.invariant.1)
+    filled_more c.args.counters.now l.counters l.i (omega arith) l.invariant
 
 pub returns : goal.returns
 returns c =
     let l = c.loop-i in
-    let both = filled_all c.args.counters.now l.counters l.i c.args.n (omega arith) l.invariant.1 in record { alike = both.0; full = both.1 }
+    let both = filled_all c.args.counters.now l.counters l.i c.args.n (omega arith) l.invariant in record { alike = both.0; full = both.1 }

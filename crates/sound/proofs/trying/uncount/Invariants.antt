@@ -3,7 +3,4 @@ use Rattle.sound.proofs.trying.Laws.{Filled}
 use Rattle.sound.proofs.trying.uncount.Given as goal
 
 abbrev pub invariant-loop-i : goal.invariant-loop-i
-invariant-loop-i l = (l.i ≤ l.n) × Filled l.initial.counters l.counters l.i
-
-abbrev pub decreases-loop-i : goal.decreases-loop-i
-decreases-loop-i l = l.n - l.i
+invariant-loop-i l = Filled l.initial.counters l.counters l.i

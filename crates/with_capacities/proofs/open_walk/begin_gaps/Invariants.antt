@@ -8,7 +8,4 @@ use Rattle.refinement.specs.orders.Order.{lent}
 use Rattle.with_capacities.proofs.open_walk.begin_gaps.Given as goal
 
 abbrev pub invariant-loop-i : goal.invariant-loop-i
-invariant-loop-i l = (l.i ≤ l.n) × ((parts sources lengths places body room : List ℕ) (write : Bool) → Rest l.plan parts write (each (begin_gaps (lent l.plan parts sources lengths places body)) l.n 0 l.initial.counters) room (each (begin_gaps (lent l.plan parts sources lengths places body)) (l.n - l.i) l.i l.counters) room)
-
-abbrev pub decreases-loop-i : goal.decreases-loop-i
-decreases-loop-i l = l.n - l.i
+invariant-loop-i l = (parts sources lengths places body room : List ℕ) (write : Bool) → Rest l.plan parts write (each (begin_gaps (lent l.plan parts sources lengths places body)) l.n 0 l.initial.counters) room (each (begin_gaps (lent l.plan parts sources lengths places body)) (l.n - l.i) l.i l.counters) room

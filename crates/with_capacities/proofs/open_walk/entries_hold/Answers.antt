@@ -11,7 +11,7 @@ use Rattle.with_capacities.proofs.open_walk.Laws.{entry_holds, entry_at, entries
 use Rattle.with_capacities.proofs.open_walk.entries_hold.Goals as goal
 
 pub loop-s-init : goal.loop-s-init
-loop-s-init c = (omega arith, refl)
+loop-s-init c = refl
 
 pub overflow_add-i : goal.overflow_add-i
 overflow_add-i c = omega arith
@@ -35,18 +35,12 @@ returns-then-not-fits c =
     entries_are x z.i c.source_count-m.ensures.value
     (sym (every_false (entry_holds x z.i) m s (omega arith) (no (entry_at x z.i s c.base_of.ensures c.node_of.ensures.value c.length_of-n.ensures c.fits.ensures) c.if-not-fits.true-raw)))
 
-pub overflow_add-s : goal.overflow_add-s
-overflow_add-s c = omega arith
-
-pub loop-s-smaller : goal.loop-s-smaller
-loop-s-smaller c = omega arith
-
 pub loop-s-preserved : goal.loop-s-preserved
 loop-s-preserved c =
     let z = c.args in
     let s = c.loop-s.s in
     let x = lent z.plan.now [] z.sources.now z.lengths.now [] [] in
-    (omega arith, every_one (entry_holds x z.i) s c.loop-s.invariant.1 (yes (entry_at x z.i s c.base_of.ensures c.node_of.ensures.value c.length_of-n.ensures c.fits.ensures) c.if-not-fits.false-raw))
+    every_one (entry_holds x z.i) s c.loop-s.invariant (yes (entry_at x z.i s c.base_of.ensures c.node_of.ensures.value c.length_of-n.ensures c.fits.ensures) c.if-not-fits.false-raw)
 
 pub returns : goal.returns
 returns c =
@@ -55,4 +49,4 @@ returns c =
     let m = c.source_count-m.result in
     λ parts places body.
     let x = lent z.plan.now parts z.sources.now z.lengths.now places body in
-    entries_are x z.i c.source_count-m.ensures.value (sym (every_now (entry_holds x z.i) m s (omega arith) (omega arith) c.loop-s.invariant.1))
+    entries_are x z.i c.source_count-m.ensures.value (sym (every_now (entry_holds x z.i) m s (omega arith) (omega arith) c.loop-s.invariant))

@@ -8,7 +8,4 @@ use Rattle.with_capacities.proofs.open_walk.Laws.{entry_holds}
 use Rattle.with_capacities.proofs.open_walk.entries_hold.Given as goal
 
 abbrev pub invariant-loop-s : goal.invariant-loop-s
-invariant-loop-s l = (l.s ≤ l.m) × (every (entry_holds (lent l.plan [] l.sources l.lengths [] []) l.i) l.s ≡ true)
-
-abbrev pub decreases-loop-s : goal.decreases-loop-s
-decreases-loop-s l = l.m - l.s
+invariant-loop-s l = every (entry_holds (lent l.plan [] l.sources l.lengths [] []) l.i) l.s ≡ true

@@ -11,16 +11,16 @@ use borrow.Author.Rules.{rules}
 use Rattle.with_capacities.proofs.open_walk.first_offsets.Goals as goal
 
 pub loop-i-init : goal.loop-i-init
-loop-i-init c = (search rules, search rules, λ sources lengths places body k g c2 room2. simp sub-zero (λ d. d))
+loop-i-init c = λ sources lengths places body k g c2 room2. simp sub-zero (λ d. d)
 
 pub loop-i-preserved : goal.loop-i-preserved
 loop-i-preserved c =
     let l = c.loop-i in
     let n = c.node_count-n.result in
-    (search rules, search rules, λ sources lengths places body k g c2 room2 d. l.invariant.2 sources lengths places body k _ _ _ (each_more _ _ (n - l.i) (n - (l.i + 1)) l.i (l.i + 1) _ _ (omega arith) refl (c.first_offset.ensures sources lengths places body k) refl d))
+    λ sources lengths places body k g c2 room2 d. l.invariant sources lengths places body k _ _ _ (each_more _ _ (n - l.i) (n - (l.i + 1)) l.i (l.i + 1) _ _ (omega arith) refl (c.first_offset.ensures sources lengths places body k) refl d)
 
 pub returns : goal.returns
 returns c =
     let z = c.args in
     let l = c.loop-i in
-    λ sources lengths places body n. let x = lent z.plan.now z.parts.now sources lengths places body in nodes_did x z.write (first_offset x) n z.room.now c.node_count-n.ensures.value (l.invariant.2 sources lengths places body n _ _ _ (each_none _ _ (c.node_count-n.result - l.i) _ _ _ (omega arith)))
+    λ sources lengths places body n. let x = lent z.plan.now z.parts.now sources lengths places body in nodes_did x z.write (first_offset x) n z.room.now c.node_count-n.ensures.value (l.invariant sources lengths places body n _ _ _ (each_none _ _ (c.node_count-n.result - l.i) _ _ _ (omega arith)))

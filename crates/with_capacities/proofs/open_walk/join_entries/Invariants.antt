@@ -8,7 +8,4 @@ use Rattle.refinement.specs.orders.Order.{lent}
 use Rattle.with_capacities.proofs.open_walk.join_entries.Given as goal
 
 abbrev pub invariant-loop-s : goal.invariant-loop-s
-invariant-loop-s l = (l.s ≤ l.m) × (length l.room ≡ length l.initial.room) × Rest l.plan l.parts l.write (each (join_source (lent l.plan l.parts l.sources l.lengths l.places l.body) l.i) l.m 0 l.initial.counters) l.initial.room (each (join_source (lent l.plan l.parts l.sources l.lengths l.places l.body) l.i) (l.m - l.s) l.s l.counters) l.room
-
-abbrev pub decreases-loop-s : goal.decreases-loop-s
-decreases-loop-s l = l.m - l.s
+invariant-loop-s l = Rest l.plan l.parts l.write (each (join_source (lent l.plan l.parts l.sources l.lengths l.places l.body) l.i) l.m 0 l.initial.counters) l.initial.room (each (join_source (lent l.plan l.parts l.sources l.lengths l.places l.body) l.i) (l.m - l.s) l.s l.counters) l.room

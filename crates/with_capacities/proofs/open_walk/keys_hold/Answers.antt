@@ -17,7 +17,7 @@ returns-then-not-is_integer c =
     λ parts places body. keys_none (lent z.plan.now parts z.sources.now z.lengths.now places body) z.i c.code_of-code.ensures c.is_integer.ensures c.if-not-is_integer.true-raw
 
 pub loop-s-init : goal.loop-s-init
-loop-s-init c = (omega arith, λ n e. refl)
+loop-s-init c = λ n e. refl
 
 pub base_of-start-requires : goal.base_of-start-requires
 base_of-start-requires c = omega arith
@@ -44,18 +44,12 @@ returns-then-not-key_fits c =
     keys_are x z.i c.code_of-code.ensures c.is_integer.ensures c.if-not-is_integer.false-raw c.source_count-m.ensures.value
     (λ n e. sym (every_false (key_holds x n z.i) m s (omega arith) (no (key_at_lem x n z.i s c.base_of-start.ensures c.node_of-k.ensures.value c.length_of-n.ensures (c.key_fits.ensures n e)) c.if-not-key_fits.true-raw)))
 
-pub overflow_add-s : goal.overflow_add-s
-overflow_add-s c = omega arith
-
-pub loop-s-smaller : goal.loop-s-smaller
-loop-s-smaller c = omega arith
-
 pub loop-s-preserved : goal.loop-s-preserved
 loop-s-preserved c =
     let z = c.args in
     let s = c.loop-s.s in
     let x = lent z.plan.now [] z.sources.now z.lengths.now [] [] in
-    (omega arith, λ n e. every_one (key_holds x n z.i) s (c.loop-s.invariant.1 n e) (yes (key_at_lem x n z.i s c.base_of-start.ensures c.node_of-k.ensures.value c.length_of-n.ensures (c.key_fits.ensures n e)) c.if-not-key_fits.false-raw))
+    λ n e. every_one (key_holds x n z.i) s (c.loop-s.invariant n e) (yes (key_at_lem x n z.i s c.base_of-start.ensures c.node_of-k.ensures.value c.length_of-n.ensures (c.key_fits.ensures n e)) c.if-not-key_fits.false-raw)
 
 pub returns : goal.returns
 returns c =
@@ -65,4 +59,4 @@ returns c =
     λ parts places body.
     let x = lent z.plan.now parts z.sources.now z.lengths.now places body in
     keys_are x z.i c.code_of-code.ensures c.is_integer.ensures c.if-not-is_integer.false-raw c.source_count-m.ensures.value
-    (λ n e. sym (every_now (key_holds x n z.i) m s (omega arith) (omega arith) (c.loop-s.invariant.1 n e)))
+    (λ n e. sym (every_now (key_holds x n z.i) m s (omega arith) (omega arith) (c.loop-s.invariant n e)))

@@ -11,7 +11,4 @@ use Rattle.refinement.specs.orders.Order.{lent}
 use Rattle.with_capacities.proofs.open_walk.keys_hold.Given as goal
 
 abbrev pub invariant-loop-s : goal.invariant-loop-s
-invariant-loop-s l = (l.s ≤ l.m) × ((n : Number) → number_of l.code ≡ some n → every (key_holds (lent l.plan [] l.sources l.lengths [] []) n l.i) l.s ≡ true)
-
-abbrev pub decreases-loop-s : goal.decreases-loop-s
-decreases-loop-s l = l.m - l.s
+invariant-loop-s l = (n : Number) → number_of l.code ≡ some n → every (key_holds (lent l.plan [] l.sources l.lengths [] []) n l.i) l.s ≡ true

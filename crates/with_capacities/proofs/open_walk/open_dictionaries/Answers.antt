@@ -11,7 +11,7 @@ use borrow.Author.Rules.{rules}
 use Rattle.with_capacities.proofs.open_walk.open_dictionaries.Goals as goal
 
 pub loop-i-init : goal.loop-i-init
-loop-i-init c = (search rules, search rules, λ g c2 room2. simp sub-zero (λ d. d))
+loop-i-init c = λ g c2 room2. simp sub-zero (λ d. d)
 
 pub returns-then-g-ne0 : goal.returns-then-g-ne0
 returns-then-g-ne0 c =
@@ -19,17 +19,17 @@ returns-then-g-ne0 c =
     let l = c.loop-i in
     let n = c.node_count-n.result in
     let x = lent z.plan.now z.parts.now z.sources.now z.lengths.now z.places.now z.body.now in
-    nodes_did x z.write (open_dictionary x) z.counters.now z.room.now c.node_count-n.ensures.value (l.invariant.2 _ _ _ (each_stop _ _ (n - l.i) (n - (l.i + 1)) _ _ _ (omega arith) c.open_dictionary-g.ensures c.if-g-ne0.true))
+    nodes_did x z.write (open_dictionary x) z.counters.now z.room.now c.node_count-n.ensures.value (l.invariant _ _ _ (each_stop _ _ (n - l.i) (n - (l.i + 1)) _ _ _ (omega arith) c.open_dictionary-g.ensures c.if-g-ne0.true))
 
 pub loop-i-preserved : goal.loop-i-preserved
 loop-i-preserved c =
     let l = c.loop-i in
     let n = c.node_count-n.result in
-    (search rules, search rules, λ g c2 room2 d. l.invariant.2 _ _ _ (each_more _ _ (n - l.i) (n - (l.i + 1)) l.i (l.i + 1) _ _ (omega arith) refl c.open_dictionary-g.ensures c.if-g-ne0.false d))
+    λ g c2 room2 d. l.invariant _ _ _ (each_more _ _ (n - l.i) (n - (l.i + 1)) l.i (l.i + 1) _ _ (omega arith) refl c.open_dictionary-g.ensures c.if-g-ne0.false d)
 
 pub returns : goal.returns
 returns c =
     let z = c.args in
     let l = c.loop-i in
     let x = lent z.plan.now z.parts.now z.sources.now z.lengths.now z.places.now z.body.now in
-    nodes_did x z.write (open_dictionary x) z.counters.now z.room.now c.node_count-n.ensures.value (l.invariant.2 _ _ _ (each_none _ _ (c.node_count-n.result - l.i) _ _ _ (omega arith)))
+    nodes_did x z.write (open_dictionary x) z.counters.now z.room.now c.node_count-n.ensures.value (l.invariant _ _ _ (each_none _ _ (c.node_count-n.result - l.i) _ _ _ (omega arith)))
