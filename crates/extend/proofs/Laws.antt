@@ -13,9 +13,8 @@ use Rattle.number.specs.Number.{entry}
 use Rattle.columnar.specs.Types.{half}
 use Rattle.schema.specs.formats.Code.{is_list_view, is_list}
 use Rattle.run_ends.specs.Lookup.{bisect}
-use Rattle.run_ends.specs.declared.Runs.{Runs}
-use Rattle.run_ends.specs.declared.Runs.TheVariants.{Range, None}
-use Rattle.run_ends.specs.declared.PhysicalRun.{PhysicalRun}
+use Rattle.std.specs.Prelude.{Option, Some, None}
+use Rattle.run_ends.specs.declared.RunRange.{RunRange}
 use Rattle.run_ends.proofs.Laws.{range_within}
 use Rattle.array_data.proofs.lent_tables.Laws.{no, yes, and_left, and_right}
 use Rattle.walk.specs.State.{Join, code_of, bytes_of, end_of, rows, add_rows, place, length_of, offset_of, rows_in, slot_of, far}
@@ -262,19 +261,19 @@ module _ (x : Join) (child : Walk) (wr : Bool) (i slot n : ℕ) (c room : List �
     unfolding copy_runs
     runs_go z k = rw (ne_eqb n 0 s) (by (sym (runs_is _)) (next_ok _ d z k))
 
-    module _ (z : g ≡ 0) {j w : ℕ} {found : Runs} (p : j ≡ suc i) (q : w ≡ bytes_of x.plan j) (h : found ≡ runs_at x child w i slot n) where
+    module _ (z : g ≡ 0) {j w : ℕ} {found : Option RunRange} (p : j ≡ suc i) (q : w ≡ bytes_of x.plan j) (h : found ≡ runs_at x child w i slot n) where
       same : found ≡ runs_at x child W i slot n
       same = rw (q, p) at h
 
       pub runs_past : found ≡ None → Did x.plan x.parts wr (copy_runs x child i slot n c) room 12 c room
       runs_past e = runs_go z (rw (sym same ∙ e) (fail_did wr 12 c room))
 
-      module _ {run : PhysicalRun} {count k r : ℕ} {c1 room1 : List ℕ} (e : found ≡ Range run count) (m : k ≡ suc (suc i))
-          (v : Did x.plan x.parts wr (child k run.0 count c) room r c1 room1) where
+      module _ {at : RunRange} {k r : ℕ} {c1 room1 : List ℕ} (e : found ≡ Some at) (m : k ≡ suc (suc i))
+          (v : Did x.plan x.parts wr (child k at.first.0 at.count c) room r c1 room1) where
         pub runs_values : (r ≡ 0 → ⊥) → Did x.plan x.parts wr (copy_runs x child i slot n c) room r c1 room1
         runs_values y = runs_go z (rw (sym same ∙ e) (next_no _ (rw m at v) y))
 
-        pub runs_done : {last r2 : ℕ} {c2 room2 : List ℕ} → r ≡ 0 → last ≡ rows c i → Did x.plan x.parts wr (run_numbers x w i slot n last run.0 count c1) room1 r2 c2 room2
+        pub runs_done : {last r2 : ℕ} {c2 room2 : List ℕ} → r ≡ 0 → last ≡ rows c i → Did x.plan x.parts wr (run_numbers x w i slot n last at.first.0 at.count c1) room1 r2 c2 room2
             → Did x.plan x.parts wr (copy_runs x child i slot n c) room r2 c2 room2
         unfolding run_numbers
         runs_done y l o = runs_go z (rw (sym same ∙ e) (next_ok _ (rw m at v) y (rw (l, q, p) at o)))
@@ -292,9 +291,9 @@ module _ (x : Join) (i n : ℕ) (c : List ℕ) {j w : ℕ} (p : j ≡ suc i) (q 
   runs_fit e = rw (e, q, p) r.fits
 
   -- the runs that were found are among those
-  pub runs_found : (child : Walk) (slot : ℕ) {found : Runs} {run : PhysicalRun} {count : ℕ} → found ≡ runs_at x child w i slot n → found ≡ Range run count
-      → place x (suc i) 3 + w * (offset_of x (suc i) + (run.0 + count)) ≤ length x.body
-  runs_found child slot {run = run} {count} e f =
+  pub runs_found : (child : Walk) (slot : ℕ) {found : Option RunRange} {at : RunRange} → found ≡ runs_at x child w i slot n → found ≡ Some at
+      → place x (suc i) 3 + w * (offset_of x (suc i) + (at.first.0 + at.count)) ≤ length x.body
+  runs_found child slot {at = at} e f =
       let k = range_within w x.body (ends_at x child w i) (length_of x (suc i)) slot (slot + n) (λ z. bisect w x.body (ends_at x child w i) (length_of x (suc i)) z) e f in
-      let l : offset_of x (suc i) + (run.0 + count) ≤ offset_of x (suc i) + length_of x (suc i) = omega (arith, k.within) in
+      let l : offset_of x (suc i) + (at.first.0 + at.count) ≤ offset_of x (suc i) + length_of x (suc i) = omega (arith, k.within) in
       omega (arith, runs_inside, mul-le-mul_left w l)

@@ -6,7 +6,7 @@ ghost use Rattle.walk.specs.Nulls.{null_runs, null_walk};
 ghost use Rattle.leaf_walk.specs.Walks.{lent_join, null_join, Walks};
 
 use nested_rows::lookups;
-use run_ends::{LogicalRow, Runs};
+use run_ends::LogicalRow;
 use walk::plan_words;
 
 // A run-end node: the values of the runs of the rows, then the runs' ends.
@@ -41,7 +41,7 @@ pub fn extend_run(
     let last = plan_words::rows_of(counters, i);
     let start = LogicalRow(slot);
     match nested_rows::runs_at(lengths, places, body, first, i, w, start, n) {
-        Runs::Range { first: run, count } => {
+        Some(runs) => {
             let g = crate::extend(
                 plan,
                 parts,
@@ -54,8 +54,8 @@ pub fn extend_run(
                 source,
                 first,
                 i + 2,
-                run.0 as u64,
-                count as u64,
+                runs.first.0 as u64,
+                runs.count as u64,
                 depth,
             );
             if g != 0 {
@@ -63,10 +63,10 @@ pub fn extend_run(
             }
             nested_rows::run_numbers(
                 plan, parts, lengths, places, body, counters, room, write, first, i, w, start, n,
-                last, run, count,
+                last, runs.first, runs.count,
             )
         }
-        Runs::None => 12,
+        None => 12,
     }
 }
 

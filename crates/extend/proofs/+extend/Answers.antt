@@ -320,17 +320,17 @@ run::extend_run-extend-g-requires t c = omega (arith, c.requires)
 pub run::extend_run-returns-then-g-ne0-2 : goal.run::extend_run-returns-then-g-ne0-2
 run::extend_run-returns-then-g-ne0-2 t c =
     let a = c.args in
-    runs_values (join a.plan.now a.parts.now a.lengths.now a.places.now a.body.now a.first a.source) (copy_walk (join a.plan.now a.parts.now a.lengths.now a.places.now a.body.now a.first a.source) a.depth) a.write a.i a.slot a.n a.counters.now a.room.now c.if-n-eq0.false (c.runs_ready-g.ensures a.parts.now a.room.now a.source a.write) c.if-g-ne0.false (add-one a.i) c.width_at-w.ensures (c.runs_at.ensures a.plan.now a.parts.now a.source (copy_walk (join a.plan.now a.parts.now a.lengths.now a.places.now a.body.now a.first a.source) a.depth)) c.in-Range.is (add_two a.i) c.extend-g.ensures c.if-g-ne0-2.true
+    runs_values (join a.plan.now a.parts.now a.lengths.now a.places.now a.body.now a.first a.source) (copy_walk (join a.plan.now a.parts.now a.lengths.now a.places.now a.body.now a.first a.source) a.depth) a.write a.i a.slot a.n a.counters.now a.room.now c.if-n-eq0.false (c.runs_ready-g.ensures a.parts.now a.room.now a.source a.write) c.if-g-ne0.false (add-one a.i) c.width_at-w.ensures (c.runs_at.ensures a.plan.now a.parts.now a.source (copy_walk (join a.plan.now a.parts.now a.lengths.now a.places.now a.body.now a.first a.source) a.depth)) c.in-Some.is (add_two a.i) c.extend-g.ensures c.if-g-ne0-2.true
 
 pub run::extend_run-run_numbers-requires : goal.run::extend_run-run_numbers-requires
 run::extend_run-run_numbers-requires t c =
     let a = c.args in
-    record { first_bound = omega (arith, c.requires, (runs_ready_lem (join a.plan.now a.parts.now a.lengths.now a.places.now a.body.now a.first a.source) (copy_walk (join a.plan.now a.parts.now a.lengths.now a.places.now a.body.now a.first a.source) a.depth) a.write a.i a.slot a.n a.counters.now a.room.now c.if-n-eq0.false (c.runs_ready-g.ensures a.parts.now a.room.now a.source a.write) c.if-g-ne0.false).low, runs_fit (join a.plan.now a.parts.now a.lengths.now a.places.now a.body.now a.first a.source) a.i a.n a.counters.now (add-one a.i) c.width_at-w.ensures (runs_ready_lem (join a.plan.now a.parts.now a.lengths.now a.places.now a.body.now a.first a.source) (copy_walk (join a.plan.now a.parts.now a.lengths.now a.places.now a.body.now a.first a.source) a.depth) a.write a.i a.slot a.n a.counters.now a.room.now c.if-n-eq0.false (c.runs_ready-g.ensures a.parts.now a.room.now a.source a.write) c.if-g-ne0.false) c.rows_of-last.ensures); w_value = runs_wide (join a.plan.now a.parts.now a.lengths.now a.places.now a.body.now a.first a.source) a.i a.n a.counters.now (add-one a.i) c.width_at-w.ensures (runs_ready_lem (join a.plan.now a.parts.now a.lengths.now a.places.now a.body.now a.first a.source) (copy_walk (join a.plan.now a.parts.now a.lengths.now a.places.now a.body.now a.first a.source) a.depth) a.write a.i a.slot a.n a.counters.now a.room.now c.if-n-eq0.false (c.runs_ready-g.ensures a.parts.now a.room.now a.source a.write) c.if-g-ne0.false); count_in_bounds = runs_found (join a.plan.now a.parts.now a.lengths.now a.places.now a.body.now a.first a.source) a.i a.n a.counters.now (add-one a.i) c.width_at-w.ensures (runs_ready_lem (join a.plan.now a.parts.now a.lengths.now a.places.now a.body.now a.first a.source) (copy_walk (join a.plan.now a.parts.now a.lengths.now a.places.now a.body.now a.first a.source) a.depth) a.write a.i a.slot a.n a.counters.now a.room.now c.if-n-eq0.false (c.runs_ready-g.ensures a.parts.now a.room.now a.source a.write) c.if-g-ne0.false) (copy_walk (join a.plan.now a.parts.now a.lengths.now a.places.now a.body.now a.first a.source) a.depth) a.slot (c.runs_at.ensures a.plan.now a.parts.now a.source (copy_walk (join a.plan.now a.parts.now a.lengths.now a.places.now a.body.now a.first a.source) a.depth)) c.in-Range.is }
+    record { first_bound = omega (arith, c.requires, (runs_ready_lem (join a.plan.now a.parts.now a.lengths.now a.places.now a.body.now a.first a.source) (copy_walk (join a.plan.now a.parts.now a.lengths.now a.places.now a.body.now a.first a.source) a.depth) a.write a.i a.slot a.n a.counters.now a.room.now c.if-n-eq0.false (c.runs_ready-g.ensures a.parts.now a.room.now a.source a.write) c.if-g-ne0.false).low, runs_fit (join a.plan.now a.parts.now a.lengths.now a.places.now a.body.now a.first a.source) a.i a.n a.counters.now (add-one a.i) c.width_at-w.ensures (runs_ready_lem (join a.plan.now a.parts.now a.lengths.now a.places.now a.body.now a.first a.source) (copy_walk (join a.plan.now a.parts.now a.lengths.now a.places.now a.body.now a.first a.source) a.depth) a.write a.i a.slot a.n a.counters.now a.room.now c.if-n-eq0.false (c.runs_ready-g.ensures a.parts.now a.room.now a.source a.write) c.if-g-ne0.false) c.rows_of-last.ensures); w_value = runs_wide (join a.plan.now a.parts.now a.lengths.now a.places.now a.body.now a.first a.source) a.i a.n a.counters.now (add-one a.i) c.width_at-w.ensures (runs_ready_lem (join a.plan.now a.parts.now a.lengths.now a.places.now a.body.now a.first a.source) (copy_walk (join a.plan.now a.parts.now a.lengths.now a.places.now a.body.now a.first a.source) a.depth) a.write a.i a.slot a.n a.counters.now a.room.now c.if-n-eq0.false (c.runs_ready-g.ensures a.parts.now a.room.now a.source a.write) c.if-g-ne0.false); count_in_bounds = runs_found (join a.plan.now a.parts.now a.lengths.now a.places.now a.body.now a.first a.source) a.i a.n a.counters.now (add-one a.i) c.width_at-w.ensures (runs_ready_lem (join a.plan.now a.parts.now a.lengths.now a.places.now a.body.now a.first a.source) (copy_walk (join a.plan.now a.parts.now a.lengths.now a.places.now a.body.now a.first a.source) a.depth) a.write a.i a.slot a.n a.counters.now a.room.now c.if-n-eq0.false (c.runs_ready-g.ensures a.parts.now a.room.now a.source a.write) c.if-g-ne0.false) (copy_walk (join a.plan.now a.parts.now a.lengths.now a.places.now a.body.now a.first a.source) a.depth) a.slot (c.runs_at.ensures a.plan.now a.parts.now a.source (copy_walk (join a.plan.now a.parts.now a.lengths.now a.places.now a.body.now a.first a.source) a.depth)) c.in-Some.is }
 
 pub run::extend_run-returns-else-g-ne0-2 : goal.run::extend_run-returns-else-g-ne0-2
 run::extend_run-returns-else-g-ne0-2 t c =
     let a = c.args in
-    runs_done (join a.plan.now a.parts.now a.lengths.now a.places.now a.body.now a.first a.source) (copy_walk (join a.plan.now a.parts.now a.lengths.now a.places.now a.body.now a.first a.source) a.depth) a.write a.i a.slot a.n a.counters.now a.room.now c.if-n-eq0.false (c.runs_ready-g.ensures a.parts.now a.room.now a.source a.write) c.if-g-ne0.false (add-one a.i) c.width_at-w.ensures (c.runs_at.ensures a.plan.now a.parts.now a.source (copy_walk (join a.plan.now a.parts.now a.lengths.now a.places.now a.body.now a.first a.source) a.depth)) c.in-Range.is (add_two a.i) c.extend-g.ensures c.if-g-ne0-2.false c.rows_of-last.ensures (c.run_numbers.ensures a.source)
+    runs_done (join a.plan.now a.parts.now a.lengths.now a.places.now a.body.now a.first a.source) (copy_walk (join a.plan.now a.parts.now a.lengths.now a.places.now a.body.now a.first a.source) a.depth) a.write a.i a.slot a.n a.counters.now a.room.now c.if-n-eq0.false (c.runs_ready-g.ensures a.parts.now a.room.now a.source a.write) c.if-g-ne0.false (add-one a.i) c.width_at-w.ensures (c.runs_at.ensures a.plan.now a.parts.now a.source (copy_walk (join a.plan.now a.parts.now a.lengths.now a.places.now a.body.now a.first a.source) a.depth)) c.in-Some.is (add_two a.i) c.extend-g.ensures c.if-g-ne0-2.false c.rows_of-last.ensures (c.run_numbers.ensures a.source)
 
 pub run::extend_run-returns-in-None : goal.run::extend_run-returns-in-None
 run::extend_run-returns-in-None t c =

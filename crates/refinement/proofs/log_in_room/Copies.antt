@@ -14,8 +14,8 @@ use Rattle.utils.specs.Offsets.{moved_offsets}
 use Rattle.utils.specs.Extension.{extended}
 use Rattle.utils.specs.declared.Extended.{Extended}
 use Rattle.utils.specs.declared.Extended.TheVariants.{Fits, Over, Falls}
-use Rattle.run_ends.specs.declared.Runs.{Runs}
-use Rattle.run_ends.specs.declared.Runs.TheVariants.{Range, None}
+use Rattle.std.specs.Prelude.{Option, Some, None}
+use Rattle.run_ends.specs.declared.RunRange.{RunRange}
 use Rattle.walk.specs.State.{Join, code_of, dictionary_of, end_of, keeps_of, base_of, bytes_of, rows, bytes, place, far}
 use Rattle.walk.specs.Leaves.{copy_bits, copy_mask, copy_numbers, copy_keys, copy_views, put_string, put_extended, copy_string}
 use Rattle.walk.specs.Copy.{Walk, is_width, masked, list_view_row, copy_list_view, put_stretch, copy_list, copy_sparse, id_at, dense_to, dense_row, copy_dense, put_runs, runs_at, copy_runs, copy_data, copy_slots, copy_node, copy_walk, each_field}
@@ -139,11 +139,11 @@ module _ (x : Join) (In At : ℕ → Type 0) (closed : Closed x.plan In At) (bod
           (λ c3. below _ _ 1 c3 (closed.child i _ here union (child_with_lem x.plan i (id_at x walk i (slot + r)) 32 (suc i) (child_first x.plan i) l)))))))
           n 0 c)
 
-    uses_runs_put : (w slot n : ℕ) (r : Runs) (c : List ℕ) → code_of x.plan i ≡ 23 → suc (suc i) < 32 → HasBuffer x.plan (suc i) 1 → Uses U (put_runs x walk w i slot n r c)
+    uses_runs_put : (w slot n : ℕ) (r : Option RunRange) (c : List ℕ) → code_of x.plan i ≡ 23 → suc (suc i) < 32 → HasBuffer x.plan (suc i) 1 → Uses U (put_runs x walk w i slot n r c)
     uses_runs_put w slot n None c q s h = uses_fail U 12 c
-    uses_runs_put w slot n (Range start count) c q s h =
-        uses_next U _ _ (below (suc (suc i)) start.0 count c (closed.values i here q))
-        (λ c2. uses_next U _ _ (uses_put x.plan At (suc i) (omega arith) (closed.ends i here q) 0 _ _ c2 h (bytes_clipped w x.body _ count slot (slot + n) (rows c i)))
+    uses_runs_put w slot n (Some r) c q s h =
+        uses_next U _ _ (below (suc (suc i)) r.first.0 r.count c (closed.values i here q))
+        (λ c2. uses_next U _ _ (uses_put x.plan At (suc i) (omega arith) (closed.ends i here q) 0 _ _ c2 h (bytes_clipped w x.body _ r.count slot (slot + n) (rows c i)))
         (λ c3. uses_done U _))
 
     uses_runs : (slot n : ℕ) (c : List ℕ) → code_of x.plan i ≡ 23 → Uses U (copy_runs x walk i slot n c)

@@ -20,8 +20,8 @@ use Rattle.utils.specs.declared.Extended.TheVariants.{Fits, Over, Falls}
 use Rattle.utils.proofs.Pieces.{length_numbers}
 use Rattle.utils.specs.primitive.Primitive.{rebased}
 use Rattle.utils.specs.byte_view.View.{reviewed_one, reviewed}
-use Rattle.run_ends.specs.declared.Runs.{Runs}
-use Rattle.run_ends.specs.declared.Runs.TheVariants.{Range, None}
+use Rattle.std.specs.Prelude.{Option, Some, None}
+use Rattle.run_ends.specs.declared.RunRange.{RunRange}
 use Rattle.run_ends.proofs.Laws.{length_clipped}
 use Rattle.walk.specs.State.{Join, code_of, dictionary_of, end_of, keeps_of, base_of, bytes_of, rows, bytes, gap, place, far, add_rows, set_bytes, end_gap}
 use Rattle.walk.specs.Log.{put, Out, fail, done, wrote, next}
@@ -230,15 +230,15 @@ module _ (x : Join) (In At : ℕ → Type 0) (closed : Closed x.plan In At) (run
         (λ c3. kid _ _ 1 c3 (closed.child i _ here u (child_with_lem S i (id_at x walk i (slot + r)) 32 (suc i) (child_first S i) l)))))))
         n 0 c (omega arith))
 
-    adds_put_runs : (slot : ℕ) (r : Runs) (c : List ℕ) → code_of S i ≡ 23 → suc (suc i) < 32 → Adds S late i n c (put_runs x walk (bytes_of S (suc i)) i slot n r c)
+    adds_put_runs : (slot : ℕ) (r : Option RunRange) (c : List ℕ) → code_of S i ≡ 23 → suc (suc i) < 32 → Adds S late i n c (put_runs x walk (bytes_of S (suc i)) i slot n r c)
     adds_put_runs slot None c q s = adds_fail S late i n 12 c (omega arith)
-    adds_put_runs slot (Range start count) c q s =
-        adds_next S late i n c _ _ (kid (suc (suc i)) start.0 count c (closed.values i here q))
-        (λ c2. adds_done_two S late i n c2 _ (λ d. add_rows (suc i) count d) (λ d. end_gap i d)
+    adds_put_runs slot (Some r) c q s =
+        adds_next S late i n c _ _ (kid (suc (suc i)) r.first.0 r.count c (closed.values i here q))
+        (λ c2. adds_done_two S late i n c2 _ (λ d. add_rows (suc i) r.count d) (λ d. end_gap i d)
         (adds_whole S late i n (suc i) c2 _
-        (adds_close S late (suc i) count c2 _ (omega arith)
-        (needs_all (suc i) count (omega arith) 1 (bytes_of S (suc i)) _ c2 (λ k m. needed_fixed (code_of S (suc i)) k m (run_ends_lem i here q))
-        (le_of_eq (length_clipped (bytes_of S (suc i)) x.body _ slot (slot + n) (rows c i) count ∙ mul_comm (bytes_of S (suc i)) count)))))
+        (adds_close S late (suc i) r.count c2 _ (omega arith)
+        (needs_all (suc i) r.count (omega arith) 1 (bytes_of S (suc i)) _ c2 (λ k m. needed_fixed (code_of S (suc i)) k m (run_ends_lem i here q))
+        (le_of_eq (length_clipped (bytes_of S (suc i)) x.body _ slot (slot + n) (rows c i) r.count ∙ mul_comm (bytes_of S (suc i)) r.count)))))
         (λ d. adds_gap S late i n i (min (gap d i) 1) d small q (λ l z. let y : gap d i ≡ 0 = z in omega arith)))
 
     adds_runs : (slot : ℕ) (c : List ℕ) → code_of S i ≡ 23 → Adds S late i n c (copy_runs x walk i slot n c)

@@ -10,8 +10,8 @@ use Rattle.schema.specs.formats.Code.{is_fixed, is_string, is_view, is_list_view
 use Rattle.utils.specs.Extension.{extended}
 use Rattle.utils.specs.declared.Extended.{Extended}
 use Rattle.utils.specs.declared.Extended.TheVariants.{Fits, Over, Falls}
-use Rattle.run_ends.specs.declared.Runs.{Runs}
-use Rattle.run_ends.specs.declared.Runs.TheVariants.{Range, None}
+use Rattle.std.specs.Prelude.{Option, Some, None}
+use Rattle.run_ends.specs.declared.RunRange.{RunRange}
 use Rattle.walk.specs.State.{Join, code_of, dictionary_of, end_of, keeps_of, bytes_of, rows, nulls, bytes, gap, place, far, add_rows, add_nulls, set_bytes}
 use Rattle.walk.specs.Log.{Entry, Out, fail, done, wrote, need, found, next, each}
 use Rattle.walk.specs.Leaves.{copy_bits, copy_mask, copy_numbers, copy_keys, copy_views, put_string, put_extended, copy_string, null_mask, count_nulls, null_numbers, null_string}
@@ -185,11 +185,11 @@ module _ (j : ℕ) where
           (λ c3. below _ _ 1 c3 (closed.child i _ here u (child_with_lem x.plan i (id_at x walk i (slot + r)) 32 (suc i) (child_first x.plan i) l)))))))
           n 0 c)
 
-      still_put : (w slot n : ℕ) (r : Runs) (c : List ℕ) → code_of x.plan i ≡ 23 → Still c (put_runs x walk w i slot n r c)
+      still_put : (w slot n : ℕ) (r : Option RunRange) (c : List ℕ) → code_of x.plan i ≡ 23 → Still c (put_runs x walk w i slot n r c)
       still_put w slot n None c q = still_fail 12 c
-      still_put w slot n (Range start count) c q =
-          still_next c _ _ (below (suc (suc i)) start.0 count c (closed.values i here q))
-          (λ c2. still_next c2 _ _ (still_wrote _ c2) (λ c3. more_runs i count _ c3 (closed.own i here) (closed.ends i here q)))
+      still_put w slot n (Some r) c q =
+          still_next c _ _ (below (suc (suc i)) r.first.0 r.count c (closed.values i here q))
+          (λ c2. still_next c2 _ _ (still_wrote _ c2) (λ c3. more_runs i r.count _ c3 (closed.own i here) (closed.ends i here q)))
 
       still_runs : (slot n : ℕ) (c : List ℕ) → code_of x.plan i ≡ 23 → Still c (copy_runs x walk i slot n c)
       unfolding copy_runs

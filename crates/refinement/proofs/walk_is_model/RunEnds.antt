@@ -14,7 +14,7 @@ use Rattle.number.proofs.Laws.{length_encode}
 use Rattle.columnar.specs.Array.{item, read_with}
 use Rattle.columnar.specs.RunEnd.{RunEnd, start_of}
 use Rattle.columnar.specs.Reading.{Column, masks, slot_at}
-use Rattle.run_ends.specs.declared.Runs.TheVariants.{Range}
+use Rattle.std.specs.Prelude.{Some}
 use Rattle.model.specs.Try.{done, then, guard}
 use Rattle.model.specs.Mutable.{freeze_node, nulls_node}
 use Rattle.model.specs.Ordered.{null_row}
@@ -190,7 +190,7 @@ module _ (x : Join) (k w : ℕ) (t : Ty) (i m : ℕ) (ss : ℕ → Column (t_run
     within : slot + suc n ≤ start_of ends many
     within = omega (arith, (g.obey x.source g.known).slots.covers)
 
-    runs_found : (inner : Walk) → runs_at x inner w i slot (suc n) ≡ Range (record { 0 = first }) count
+    runs_found : (inner : Walk) → runs_at x inner w i slot (suc n) ≡ Some (record { first = record { 0 = first }; count = count })
     runs_found inner = rw g.lent.body_is.0.len_is (runs_are w x.body From many ends slot (suc n) end_is rises some within)
 
     in_values : first + count ≤ (kids x.source).len

@@ -11,8 +11,7 @@ use borrow.Author.Tests.{lt-ltb, le-ltb}
 use Rattle.number.specs.Number.{entry, encode}
 use Rattle.columnar.specs.RunEnd.{first_above, start_of}
 use Rattle.run_ends.specs.Lookup.{scan, first, quarter, Climbs, found_at, found_run, format_run, spanned, runs_of, runs_between, shortened}
-use Rattle.run_ends.specs.declared.Runs.{Runs}
-use Rattle.run_ends.specs.declared.Runs.TheVariants.{Range}
+use Rattle.std.specs.Prelude.{Some}
 use Rattle.run_ends.proofs.Search.{first_is, quarter_first}
 use Rattle.run_ends.proofs.Laws.{short_cut}
 use Rattle.model.proofs.Ends.{First, Last, Many, in_order_lem, last_run}
@@ -60,13 +59,13 @@ module _ (e f : ℕ → ℕ) where
 
 module _ (w : ℕ) (s : List ℕ) (from n last : ℕ) where
   spans : (j k x y : ℕ) → j ≤ k → k < n → x < entry w s from j → y < entry w s from k
-      → spanned (found_at w s from n last x j) (found_at w s from n last y k) ≡ Range (record { 0 = j }) (suc k - j)
+      → spanned (found_at w s from n last x j) (found_at w s from n last y k) ≡ Some (record { first = record { 0 = j }; count = suc k - j })
   spans j k x y h q a b =
       rw (lt-ltb j n (omega arith), lt-ltb x (entry w s from j) a, lt-ltb k n q, lt-ltb y (entry w s from k) b, le-ltb k j h)
-      (ap (Range (record { 0 = j })) (let z : k - j + 1 ≡ suc k - j = omega arith in z))
+      (let z : k - j + 1 ≡ suc k - j = omega arith in rw z)
 
 pub runs_are : (w : ℕ) (s : List ℕ) (from n : ℕ) (f : ℕ → ℕ) (a c : ℕ) → ((k : ℕ) → k < n → entry w s from k ≡ f k) → ((r : ℕ) → r < n → start_of f r < f r) → 0 < c → a + c ≤ start_of f n
-    → runs_of (found_run w s from n (a + c)) a (a + c) ≡ Range (record { 0 = First f n a c }) (Many f n a c)
+    → runs_of (found_run w s from n (a + c)) a (a + c) ≡ Some (record { first = record { 0 = First f n a c }; count = Many f n a c })
 runs_are w s from n f a c same rises some within =
     let e = entry w s from in
     let go : (x : ℕ) → first e n x ≡ first_above f x 0 n = first_run_lem e f n same rises in
