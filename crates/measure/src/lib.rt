@@ -45,8 +45,7 @@ pub fn measure_open(
     if g != 0 {
         return g;
     }
-    let made = transform::copied(tally);
-    transform::store(counters, &made);
+    transform::store(counters, &tally);
     0
 }
 
@@ -99,8 +98,7 @@ pub fn measure_extend(
     if g != 0 {
         return g;
     }
-    let made = transform::copied(tally);
-    transform::store(counters, &made);
+    transform::store(counters, &tally);
     0
 }
 
@@ -125,8 +123,7 @@ pub fn measure_nulls(plan: &[u64], counters: &mut [u64], n: u64) -> u8
     if g != 0 {
         return g;
     }
-    let made = transform::copied(tally);
-    transform::store(counters, &made);
+    transform::store(counters, &tally);
     0
 }
 
@@ -136,26 +133,14 @@ pub fn measure_nulls(plan: &[u64], counters: &mut [u64], n: u64) -> u8
 fn times(r: u64, w: u8) -> u64
     ensures { result ≡ min (r * w) top }
 {
-    if w == 0 {
-        return 0;
-    }
-    if u64::MAX / (w as u64) < r {
-        return u64::MAX;
-    }
-    r * (w as u64)
+    r.saturating_mul(w as u64)
 }
 
 // One entry of w bytes more than r, or the largest number of 64 bits.
 fn times_more(r: u64, w: u8) -> u64
     ensures { result ≡ min ((r + 1) * w) top }
 {
-    if w == 0 {
-        return 0;
-    }
-    if u64::MAX / (w as u64) <= r {
-        return u64::MAX;
-    }
-    (r + 1) * (w as u64)
+    times(r, w).saturating_add(w as u64)
 }
 
 // The bytes of r bits.

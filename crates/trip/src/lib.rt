@@ -111,8 +111,7 @@ fn walk_orders(
     requires { n ≤ 256 }
     ensures { Steps plan parts write (step_at (lent (was plan) (was parts) (was sources) (was lengths) (was places) (was body)) ask within (was orders)) n counters room result }
 {
-    let mut k: usize = 0;
-    while k < n {
+    for k in 0..n {
         let g = walk_step(
             plan, parts, sources, lengths, places, body, counters, room, write, ask, within,
             orders, k,
@@ -123,7 +122,6 @@ fn walk_orders(
                 place: k as u32,
             };
         }
-        k += 1;
     }
     Ended {
         refusal: 0,
@@ -170,8 +168,7 @@ fn carry_out(
         plan, parts, sources, lengths, places, body, &mut tally, room, true, false, within, orders,
         n,
     );
-    let made = transform::copied(tally);
-    transform::store(counters, &made);
+    transform::store(counters, &tally);
     e
 }
 
@@ -243,7 +240,6 @@ pub fn measure_orders(
     if e.refusal != 0 {
         return e;
     }
-    let made = transform::copied(tally);
-    transform::store(counters, &made);
+    transform::store(counters, &tally);
     e
 }

@@ -24,10 +24,7 @@ const KEEPS_NO_NULLS: u8 = 3;
 fn source_of(a: u64) -> u32
     ensures { result ≡ min a 4294967295 }
 {
-    if LARGEST_SOURCE < a {
-        return LARGEST_SOURCE as u32;
-    }
-    a as u32
+    a.min(LARGEST_SOURCE) as u32
 }
 
 // A copy of the rows start .. end - 1 of a source, tried or written.

@@ -51,4 +51,4 @@ returns c =
     let z = c.args in
     let x = lent z.plan.now [] z.sources.now z.lengths.now z.places.now z.body.now in
     let walk : List ℕ → Out = λ l. copy_walk (join z.plan.now [] z.lengths.now z.places.now z.body.now c.at_u32-first.result z.source) 8 0 z.start (z.end - z.start) l in
-    copy_made z.counters.now x z.source z.start z.end c.if-counters-ne-COUNTERS.false (yes c.plan_sound.ensures c.if-not-plan_sound.false-raw) c.at_u64.ensures c.if-at_u64-source.false c.at_u32-first.ensures (yes c.in_source.ensures c.if-not-in_source.false-raw) (measured_made z.counters.now z.counters.now walk c.load-tally.ensures c.extend-g.ensures c.if-g-ne0.false (c.store.ensures ∙ c.copied-made.ensures))
+    copy_made z.counters.now x z.source z.start z.end c.if-counters-ne-COUNTERS.false (yes c.plan_sound.ensures c.if-not-plan_sound.false-raw) c.at_u64.ensures c.if-at_u64-source.false c.at_u32-first.ensures (yes c.in_source.ensures c.if-not-in_source.false-raw) (measured_made z.counters.now z.counters.now walk c.load-tally.ensures c.extend-g.ensures c.if-g-ne0.false c.store.ensures)

@@ -35,4 +35,4 @@ pub returns : goal.returns
 returns c =
     let z = c.args in
     let walk : List ℕ → Out = λ l. null_walk (join z.plan.now [] [] [] [] 0 0) 8 0 c.at_most_far-m.result l in
-    λ sources lengths places body. null_made z.counters.now (lent z.plan.now [] sources lengths places body) z.n c.if-counters-ne-COUNTERS.false (yes c.plan_sound.ensures c.if-not-plan_sound.false-raw) c.keeps_of.ensures c.if-keeps_of-eq0.false c.at_most_far-m.ensures (measured_made z.counters.now z.counters.now walk c.load-tally.ensures c.extend_nulls-g.ensures c.if-g-ne0.false (c.store.ensures ∙ c.copied-made.ensures))
+    λ sources lengths places body. null_made z.counters.now (lent z.plan.now [] sources lengths places body) z.n c.if-counters-ne-COUNTERS.false (yes c.plan_sound.ensures c.if-not-plan_sound.false-raw) c.keeps_of.ensures c.if-keeps_of-eq0.false c.at_most_far-m.ensures (measured_made z.counters.now z.counters.now walk c.load-tally.ensures c.extend_nulls-g.ensures c.if-g-ne0.false c.store.ensures)

@@ -37,4 +37,4 @@ returns c =
     let z = c.args in
     let x = lent z.plan.now [] z.sources.now z.lengths.now z.places.now z.body.now in
     let walk : List ℕ → Out = λ l. open_walk_of x l in
-    open_made z.counters.now x c.if-counters-ne-COUNTERS.false c.at_u64.ensures c.if-at_u64-gt16.false (yes c.plan_sound.ensures c.if-not-plan_sound.false-raw) (measured_made z.counters.now (replicate 96 0) walk refl c.open_walk-g.ensures c.if-g-ne0.false (c.store.ensures ∙ c.copied-made.ensures))
+    open_made z.counters.now x c.if-counters-ne-COUNTERS.false c.at_u64.ensures c.if-at_u64-gt16.false (yes c.plan_sound.ensures c.if-not-plan_sound.false-raw) (measured_made z.counters.now (replicate 96 0) walk refl c.open_walk-g.ensures c.if-g-ne0.false c.store.ensures)

@@ -16,9 +16,6 @@ add_number_nulls-requires c =
     let some = not (eqb a.n 0) in
     (c.requires.0, eqb-false a.n 0 (not-true (eqb a.n 0) (and_right way some c.if-way-n.true)), c.requires.1 (eqb-true a.way 1 (and_left way some c.if-way-n.true)))
 
-pub returns-then-way-n : goal.returns-then-way-n
-returns-then-way-n c = c.add_number_nulls.ensures
-
 pub add_run_nulls-requires : goal.add_run_nulls-requires
 add_run_nulls-requires c =
     let a = c.args in
@@ -28,18 +25,12 @@ add_run_nulls-requires c =
     let both = and_left (way && some) one c.if-way-n-2.true in
     (c.requires.0, eqb-false a.n 0 (not-true (eqb a.n 0) (and_right way some both)), sym c.at_u64.ensures ∙ eqb-true c.at_u64.result 0 (and_right (way && some) one c.if-way-n-2.true), c.requires.2 (eqb-true a.way 2 (and_left way some both)))
 
-pub returns-then-way-n-2 : goal.returns-then-way-n-2
-returns-then-way-n-2 c = c.add_run_nulls.ensures
-
 pub add_list_nulls-requires : goal.add_list_nulls-requires
 add_list_nulls-requires c =
     let a = c.args in
     let way = eqb a.way 3 in
     let some = not (eqb a.n 0) in
     (c.requires.0, eqb-false a.n 0 (not-true (eqb a.n 0) (and_right way some c.if-way-n-3.true)), c.requires.3 (eqb-true a.way 3 (and_left way some c.if-way-n-3.true)))
-
-pub returns-then-way-n-3 : goal.returns-then-way-n-3
-returns-then-way-n-3 c = c.add_list_nulls.ensures
 
 pub add_leaf_nulls-requires : goal.add_leaf_nulls-requires
 add_leaf_nulls-requires c =
@@ -48,21 +39,9 @@ add_leaf_nulls-requires c =
     let code = leaf_code (code_of a.plan.now 0) (told (between 1 16) c.code_of.ensures c.within.ensures (and_right (not (eqb a.n 0)) c.within.result c.if-n-within.true)) in
     (c.requires.0, some, code.0, code.1)
 
-pub returns-then-n-within : goal.returns-then-n-within
-returns-then-n-within c = c.add_leaf_nulls.ensures
-
 pub add_sparse_nulls-requires : goal.add_sparse_nulls-requires
 add_sparse_nulls-requires c =
     let a = c.args in
     let some = not (eqb a.n 0) in
     let sparse = c.is_sparse in
     (c.requires.0, eqb-false a.n 0 (not-true (eqb a.n 0) (and_left some sparse.result c.if-n-is_sparse.true)), sparse.ensures (and_right some sparse.result c.if-n-is_sparse.true))
-
-pub returns-then-n-is_sparse : goal.returns-then-n-is_sparse
-returns-then-n-is_sparse c = c.add_sparse_nulls.ensures
-
-pub add_nulls-requires : goal.add_nulls-requires
-add_nulls-requires c = (c.requires.0, c.requires.4)
-
-pub returns : goal.returns
-returns c = c.add_nulls.ensures

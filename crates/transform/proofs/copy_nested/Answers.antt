@@ -5,15 +5,6 @@ use lib.ListN.{length}
 use Rattle.refinement.specs.orders.Sound.{walkable}
 use Rattle.transform.proofs.copy_nested.Goals as goal
 
-pub copy_sparse-requires : goal.copy_sparse-requires
-copy_sparse-requires c = (c.requires.0, c.requires.1, c.is_sparse.ensures c.if-is_sparse.true)
-
-pub returns-then-is_sparse : goal.returns-then-is_sparse
-returns-then-is_sparse c = λ sources. c.copy_sparse.ensures sources c.args.source
-
-pub returns-then-g : goal.returns-then-g
-returns-then-g c = λ sources. c.copy_stretches-g.ensures.copies_any c.if-g.true sources c.args.source
-
 pub copy_rows-requires : goal.copy_rows-requires
 copy_rows-requires c =
     let p = c.requires in

@@ -8,9 +8,6 @@ use Rattle.array_data.proofs.lent_tables.Laws.{and_left, and_right}
 use Rattle.transform.proofs.leaf_rows.Entries.{told, leaf_code}
 use Rattle.transform.proofs.copy_range.Goals as goal
 
-pub copy_numbers-requires : goal.copy_numbers-requires
-copy_numbers-requires c = (c.requires.0, c.requires.1, c.requires.3 c.if-way-eq-NUMBERS.true)
-
 pub returns-then-way-eq-NUMBERS : goal.returns-then-way-eq-NUMBERS
 returns-then-way-eq-NUMBERS c =
     let a = c.args in
@@ -23,9 +20,6 @@ copy_leaf_rows-requires c =
     let code = leaf_code (code_of a.plan.now 0) (told (between 1 16) c.code_of.ensures c.within.ensures (and_right (not (eqb a.n 0)) c.within.result c.if-n-within.true)) in
     (c.requires.0, c.requires.1, c.requires.2, some, code.0, code.1)
 
-pub returns-then-n-within : goal.returns-then-n-within
-returns-then-n-within c = c.copy_leaf_rows.ensures
-
 pub copy_list_rows-requires : goal.copy_list_rows-requires
 copy_list_rows-requires c =
     let a = c.args in
@@ -37,9 +31,3 @@ pub returns-then-way-n : goal.returns-then-way-n
 returns-then-way-n c =
     let a = c.args in
     λ sources. c.copy_list_rows.ensures sources a.source
-
-pub copy_nested-requires : goal.copy_nested-requires
-copy_nested-requires c = (c.requires.0, c.requires.1, c.requires.2, c.requires.5)
-
-pub returns : goal.returns
-returns c = c.copy_nested.ensures

@@ -15,9 +15,6 @@ returns-then-counters-ne-COUNTERS c =
     let x = lent z.plan.now z.parts.now z.sources.now z.lengths.now z.places.now z.body.now in
     copy_counters x z.counters.now z.room.now z.source z.start z.end c.if-counters-ne-COUNTERS.true
 
-pub is_walkable-requires : goal.is_walkable-requires
-is_walkable-requires c = copies_sound c.args.plan.now c.copy_way-way.result c.copy_way-way.ensures.plan_value c.copy_way-way.ensures.plan_value_2
-
 pub returns-then-not-is_walkable : goal.returns-then-not-is_walkable
 returns-then-not-is_walkable c =
     let z = c.args in
@@ -42,11 +39,11 @@ overflow_sub-end c =
     let f : z.start ≤ z.end = leb-true _ _ (and_left (leb z.start z.end) _ (yes c.in_source.ensures c.if-not-in_source.false-raw)) in
     omega (arith, f)
 
-pub copy_range-requires : goal.copy_range-requires
-copy_range-requires c = (c.if-counters-ne-COUNTERS.false, omega arith, omega arith, c.copy_way-way.ensures.plan_value, c.copy_way-way.ensures.plan_value_2, yes c.is_walkable.ensures c.if-not-is_walkable.false-raw)
-
 pub returns : goal.returns
 returns c =
     let z = c.args in
     let x = lent z.plan.now z.parts.now z.sources.now z.lengths.now z.places.now z.body.now in
     copy_made x z.counters.now z.room.now z.source z.start z.end c.if-counters-ne-COUNTERS.false (yes c.is_walkable.ensures c.if-not-is_walkable.false-raw) c.at_u64.ensures c.if-at_u64-source.false c.at_u32-first.ensures (yes c.in_source.ensures c.if-not-in_source.false-raw) (c.copy_range.ensures z.sources.now)
+
+pub is_walkable-requires : goal.is_walkable-requires
+is_walkable-requires c = copies_sound c.args.plan.now c.copy_way-way.result c.copy_way-way.ensures.plan_value c.copy_way-way.ensures.plan_value_2

@@ -10,9 +10,6 @@ returns-then-counters-ne-COUNTERS c =
     let z = c.args in
     λ sources lengths places body. null_counters (lent z.plan.now z.parts.now sources lengths places body) z.counters.now z.room.now z.n c.if-counters-ne-COUNTERS.true
 
-pub is_walkable-requires : goal.is_walkable-requires
-is_walkable-requires c = way_sound c.args.plan.now c.way_of-way.result c.way_of-way.ensures.plan_value c.way_of-way.ensures.plan_value_2 c.way_of-way.ensures.plan_value_3
-
 pub returns-then-not-is_walkable : goal.returns-then-not-is_walkable
 returns-then-not-is_walkable c =
     let z = c.args in
@@ -23,10 +20,10 @@ returns-then-keeps_of-eq0 c =
     let z = c.args in
     λ sources lengths places body. null_keeps (lent z.plan.now z.parts.now sources lengths places body) z.counters.now z.room.now z.n c.if-counters-ne-COUNTERS.false (yes c.is_walkable.ensures c.if-not-is_walkable.false-raw) c.keeps_of.ensures c.if-keeps_of-eq0.true
 
-pub add_null_range-requires : goal.add_null_range-requires
-add_null_range-requires c = (c.if-counters-ne-COUNTERS.false, c.way_of-way.ensures.plan_value, c.way_of-way.ensures.plan_value_2, c.way_of-way.ensures.plan_value_3, yes c.is_walkable.ensures c.if-not-is_walkable.false-raw)
-
 pub returns : goal.returns
 returns c =
     let z = c.args in
     λ sources lengths places body. null_made (lent z.plan.now z.parts.now sources lengths places body) z.counters.now z.room.now z.n c.if-counters-ne-COUNTERS.false (yes c.is_walkable.ensures c.if-not-is_walkable.false-raw) c.keeps_of.ensures c.if-keeps_of-eq0.false c.at_most_far.ensures (c.add_null_range.ensures sources lengths places body)
+
+pub is_walkable-requires : goal.is_walkable-requires
+is_walkable-requires c = way_sound c.args.plan.now c.way_of-way.result c.way_of-way.ensures.plan_value c.way_of-way.ensures.plan_value_2 c.way_of-way.ensures.plan_value_3

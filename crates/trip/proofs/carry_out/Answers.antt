@@ -18,11 +18,8 @@ returns-then-e-ne0 c =
 pub walk_orders-e-requires-2 : goal.walk_orders-e-requires-2
 walk_orders-e-requires-2 c = c.requires.1
 
-pub store-requires : goal.store-requires
-store-requires c = (c.requires.0, search rules)
-
 pub returns : goal.returns
 returns c =
     let z = c.args in
     let x = lent z.plan.now z.parts.now z.sources.now z.lengths.now z.places.now z.body.now in
-    carried_out_lem z.orders.now x z.counters.now z.room.now c.requires.1 c.requires.2 c.requires.0 c.requires.3 c.parts_within-within.ensures (alike_to c.uncount.ensures.alike c.load-tried.ensures) c.walk_orders-e.result c.walk_orders-e.ensures c.if-e-ne0.false c.walk_orders-e-2.result c.parts_within-within.result c.load-tally.ensures c.walk_orders-e-2.ensures (c.store.ensures ∙ c.copied-made.ensures)
+    carried_out_lem z.orders.now x z.counters.now z.room.now c.requires.1 c.requires.2 c.requires.0 c.requires.3 c.parts_within-within.ensures (alike_to c.uncount.ensures.alike c.load-tried.ensures) c.walk_orders-e.result c.walk_orders-e.ensures c.if-e-ne0.false c.walk_orders-e-2.result c.parts_within-within.result c.load-tally.ensures c.walk_orders-e-2.ensures c.store.ensures

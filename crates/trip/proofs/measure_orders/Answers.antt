@@ -40,4 +40,4 @@ pub returns : goal.returns
 returns c =
     let z = c.args in
     let x = lent z.plan.now [] z.sources.now z.lengths.now z.places.now z.body.now in
-    measures_made z.orders.now x z.counters.now c.if-n-gt-LONGEST.false refl c.if-counters-ne-COUNTERS.false (yes c.plan_sound.ensures c.if-not-plan_sound.false-raw) c.load-tally.ensures c.walk_orders-e.result c.walk_orders-e.ensures c.if-e-ne0.false (c.store.ensures ∙ c.copied-made.ensures)
+    measures_made z.orders.now x z.counters.now c.if-n-gt-LONGEST.false refl c.if-counters-ne-COUNTERS.false (yes c.plan_sound.ensures c.if-not-plan_sound.false-raw) c.load-tally.ensures c.walk_orders-e.result c.walk_orders-e.ensures c.if-e-ne0.false c.store.ensures

@@ -10,37 +10,22 @@ use borrow.Author.Rules.{rules}
 use Rattle.trip.proofs.walk_orders.Goals as goal
 
 pub loop-k-init : goal.loop-k-init
-loop-k-init c = (search rules, search rules, λ g p c2 room2. simp sub-zero (λ d. d))
-
-pub walk_step-g-requires : goal.walk_step-g-requires
-walk_step-g-requires c = omega arith
-
-pub overflow_cast-result : goal.overflow_cast-result
-overflow_cast-result c = omega arith
+loop-k-init c = λ g p c2 room2. simp sub-zero (λ d. d)
 
 pub returns-then-g-ne0 : goal.returns-then-g-ne0
 returns-then-g-ne0 c =
     let z = c.args in
     let l = c.loop-k in
-    l.invariant.2 _ _ _ _ (stepped_stop z.write (step_at (lent z.plan.now z.parts.now z.sources.now z.lengths.now z.places.now z.body.now) z.ask z.within z.orders.now) (z.n - l.k) (z.n - (l.k + 1)) l.k l.counters l.room (omega arith) c.walk_step-g.ensures c.if-g-ne0.true)
-
-pub overflow_add-k : goal.overflow_add-k
-overflow_add-k c = omega arith
-
-pub loop-k-smaller : goal.loop-k-smaller
-loop-k-smaller c = omega arith
+    l.invariant _ _ _ _ (stepped_stop z.write (step_at (lent z.plan.now z.parts.now z.sources.now z.lengths.now z.places.now z.body.now) z.ask z.within z.orders.now) (z.n - l.k) (z.n - (l.k + 1)) l.k l.counters l.room (omega arith) c.walk_step-g.ensures c.if-g-ne0.true)
 
 pub loop-k-preserved : goal.loop-k-preserved
 loop-k-preserved c =
     let z = c.args in
     let l = c.loop-k in
-    (omega arith, search rules, λ g p c2 room2 s. l.invariant.2 g p c2 room2 (stepped_more z.write (step_at (lent z.plan.now z.parts.now z.sources.now z.lengths.now z.places.now z.body.now) z.ask z.within z.orders.now) (z.n - l.k) (z.n - (l.k + 1)) l.k (l.k + 1) l.counters l.room (omega arith) refl c.walk_step-g.ensures c.if-g-ne0.false s))
-
-pub shape_of-room : goal.shape_of-room
-shape_of-room c = c.loop-k.invariant.1
+    λ g p c2 room2 s. l.invariant g p c2 room2 (stepped_more z.write (step_at (lent z.plan.now z.parts.now z.sources.now z.lengths.now z.places.now z.body.now) z.ask z.within z.orders.now) (z.n - l.k) (z.n - (l.k + 1)) l.k (l.k + 1) l.counters l.room (omega arith) refl c.walk_step-g.ensures c.if-g-ne0.false s)
 
 pub returns : goal.returns
 returns c =
     let z = c.args in
     let l = c.loop-k in
-    l.invariant.2 _ _ _ _ (stepped_none z.write (step_at (lent z.plan.now z.parts.now z.sources.now z.lengths.now z.places.now z.body.now) z.ask z.within z.orders.now) (z.n - l.k) l.k l.counters l.room (omega arith))
+    l.invariant _ _ _ _ (stepped_none z.write (step_at (lent z.plan.now z.parts.now z.sources.now z.lengths.now z.places.now z.body.now) z.ask z.within z.orders.now) (z.n - l.k) l.k l.counters l.room (omega arith))

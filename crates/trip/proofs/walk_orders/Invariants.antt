@@ -7,7 +7,4 @@ use Rattle.trip.proofs.Laws.{Left}
 use Rattle.trip.proofs.walk_orders.Given as goal
 
 abbrev pub invariant-loop-k : goal.invariant-loop-k
-invariant-loop-k l = (l.k ≤ l.n) × (length l.room ≡ length l.initial.room) × Left l.plan l.parts l.write (step_at (lent l.plan l.parts l.sources l.lengths l.places l.body) l.ask l.within l.orders) (l.n - l.k) l.k l.counters l.room l.n l.initial.counters l.initial.room
-
-abbrev pub decreases-loop-k : goal.decreases-loop-k
-decreases-loop-k l = l.n - l.k
+invariant-loop-k l = Left l.plan l.parts l.write (step_at (lent l.plan l.parts l.sources l.lengths l.places l.body) l.ask l.within l.orders) (l.n - l.k) l.k l.counters l.room l.n l.initial.counters l.initial.room

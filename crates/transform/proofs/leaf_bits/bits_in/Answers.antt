@@ -6,12 +6,6 @@ use lib.Dec.{leb}
 use Rattle.array_data.proofs.lent_tables.Laws.{is_none, is_some}
 use Rattle.transform.proofs.leaf_bits.bits_in.Goals as goal
 
-pub returns-then-keeps_of-eq0 : goal.returns-then-keeps_of-eq0
-returns-then-keeps_of-eq0 c = λ parts lengths source. rw (is_none c.keeps_of.ensures c.if-keeps_of-eq0.true)
-
-pub returns-then-place-eq0 : goal.returns-then-place-eq0
-returns-then-place-eq0 c = λ parts lengths source. rw (is_some c.keeps_of.ensures c.if-keeps_of-eq0.false, is_none c.place.ensures c.if-place-eq0.true)
-
 pub returns : goal.returns
 returns c =
     let a = c.args in

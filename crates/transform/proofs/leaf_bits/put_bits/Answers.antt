@@ -9,9 +9,3 @@ pub returns-then-keeps_of-eq0 : goal.returns-then-keeps_of-eq0
 returns-then-keeps_of-eq0 c =
     let a = c.args in
     λ lengths source. mask_off (join a.plan.now a.parts.now lengths a.places.now a.body.now a.first source) a.i true a.counters.now a.room.now a.slot a.n c.keeps_of.ensures c.if-keeps_of-eq0.true
-
-pub put_kept_bits-requires : goal.put_kept_bits-requires
-put_kept_bits-requires c = record { counters_len = c.requires; fact = λ z. c.if-keeps_of-eq0.false (c.keeps_of.ensures ∙ z) }
-
-pub returns : goal.returns
-returns c = c.put_kept_bits.ensures

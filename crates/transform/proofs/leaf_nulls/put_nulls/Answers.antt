@@ -8,25 +8,10 @@ use Rattle.leaf_walk.specs.Join.{join}
 use Rattle.transform.proofs.leaf_nulls.Laws.{nulls_refused, nulls_made}
 use Rattle.transform.proofs.leaf_nulls.put_nulls.Goals as goal
 
-pub room_ground-g-requires : goal.room_ground-g-requires
-room_ground-g-requires c = (c.requires.0, c.requires.2)
-
 pub returns-then-g-ne0 : goal.returns-then-g-ne0
 returns-then-g-ne0 c =
     let a = c.args in
     λ sources lengths places body. nulls_refused a.plan.now a.parts.now sources lengths places body a.i a.n a.counters.now a.room.now c.requires.1 c.requires.2 c.requires.3 c.requires.4 c.at_u64-b.ensures c.room_ground-g.ensures.value c.room_ground-g.ensures.counters_value c.if-g-ne0.true
-
-pub put_null_entries-requires : goal.put_null_entries-requires
-put_null_entries-requires c = (c.requires.2, c.requires.3, c.requires.4)
-
-pub put_null_mask-requires : goal.put_null_mask-requires
-put_null_mask-requires c = (ap length c.room_ground-g.ensures.counters_value ∙ c.requires.0, c.requires.2)
-
-pub overflow_mul-i-2 : goal.overflow_mul-i-2
-overflow_mul-i-2 c = omega (arith, c.requires.2)
-
-pub add_to-requires : goal.add_to-requires
-add_to-requires c = omega (arith, c.counters-2-1.given, c.counters-1.given, ap length c.room_ground-g.ensures.counters_value, c.requires.0, c.requires.2)
 
 pub returns : goal.returns
 returns c =

@@ -24,15 +24,6 @@ returns-then-not-rows_in c =
     let a = c.args in
     λ sources lengths start s. leaf_data a.plan.now a.parts.now sources lengths a.places.now a.body.now a.first a.source a.i start a.n a.counters.now a.room.now c.requires.counters_len.3 s (omega (arith, c.requires.counters_len.4)) c.requires.bound.1 c.requires.counters_len.0 c.requires.n_value (entries_out (join a.plan.now a.parts.now lengths a.places.now a.body.now a.first a.source) (copy_walk (join a.plan.now a.parts.now lengths a.places.now a.body.now a.first a.source) 7) a.i a.slot a.n (full a.i a.counters.now) a.room.now (entries_are (join a.plan.now a.parts.now lengths a.places.now a.body.now a.first a.source) (copy_walk (join a.plan.now a.parts.now lengths a.places.now a.body.now a.first a.source) 7) a.i a.slot a.n (full a.i a.counters.now) c.requires.bound.0 c.requires.bound.1 c.requires.bound.2) (rw (c.place.ensures, c.entry_size-w.ensures ∙ ap entry_size c.code_of.ensures) at (no (c.rows_in.ensures a.plan.now a.parts.now lengths a.places.now a.first a.source) c.if-not-rows_in.true-raw))) (λ z. omega arith)
 
-pub overflow_mul-i : goal.overflow_mul-i
-overflow_mul-i c = omega (arith, c.requires.counters_len.3)
-
-pub overflow_add-i : goal.overflow_add-i
-overflow_add-i c = omega (arith, c.requires.counters_len.3)
-
-pub room_ground-g-requires : goal.room_ground-g-requires
-room_ground-g-requires c = (c.requires.counters_len.0, c.requires.counters_len.3)
-
 pub returns-then-g-ne0 : goal.returns-then-g-ne0
 returns-then-g-ne0 c =
     let a = c.args in
@@ -49,12 +40,6 @@ put_entries-requires c =
     let q = c.entry_size-w.ensures ∙ ap entry_size c.code_of.ensures in
     let y = rows_in_lem (join [] [] [] [] a.body.now 0 0) c.place.result c.entry_size-w.result a.slot a.n (c.rows_in.ensures [] [] [] [] 0 0) c.if-not-rows_in.false-raw in
     record { first_bound = (c.requires.counters_len.1, c.requires.counters_len.2, c.requires.counters_len.3, c.requires.counters_len.4); bound = (c.requires.bound.0, c.requires.bound.1, c.requires.bound.2, q); n_in_bounds = rw c.place.ensures at y }
-
-pub overflow_mul-i-2 : goal.overflow_mul-i-2
-overflow_mul-i-2 c = omega (arith, c.requires.counters_len.3)
-
-pub add_to-requires : goal.add_to-requires
-add_to-requires c = omega (arith, c.counters-2-1.given, c.counters-1.given, ap length c.room_ground-g.ensures.counters_value, c.requires.counters_len.0, c.requires.counters_len.3)
 
 pub returns : goal.returns
 returns c =

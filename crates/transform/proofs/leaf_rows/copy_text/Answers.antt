@@ -49,9 +49,6 @@ write_text-requires c =
     let y = rows_in_lem (join [] [] [] [] a.body.now 0 0) c.place-at.result c.width_at-w.result a.slot (a.n + 1) (c.rows_in.ensures [] [] [] [] 0 0) c.if-not-rows_in.false-raw in
     record { counters_len = c.requires.counters_len; i_value = (c.requires.i_value, c.width_at-w.ensures); from_value = (ap (λ (v : ℕ). v + c.width_at-w.result * a.slot) c.place-at.ensures, omega (arith, y), ap (λ (v : ℕ). extended c.width_at-w.result a.body.now (c.place-at.result + c.width_at-w.result * a.slot) a.n v) (sym c.at_u64-old.ensures) ∙ sym c.try_offsets.ensures ∙ c.in-Fits.is); n_value = c.requires.n_value }
 
-pub returns-in-Fits : goal.returns-in-Fits
-returns-in-Fits c = λ sources lengths source start s. c.write_text.ensures sources lengths source start s
-
 pub returns-in-Over : goal.returns-in-Over
 returns-in-Over c =
     let a = c.args in

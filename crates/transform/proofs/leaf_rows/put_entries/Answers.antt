@@ -8,12 +8,6 @@ use Rattle.leaf_walk.specs.Join.{join}
 use Rattle.transform.proofs.leaf_rows.Entries.{size_in_lem, view_size, told, put_views, put_numbers, put_keys, keys_wide}
 use Rattle.transform.proofs.leaf_rows.put_entries.Goals as goal
 
-pub overflow_mul-from : goal.overflow_mul-from
-overflow_mul-from c = omega (arith, c.place.ensures, c.requires.n_in_bounds)
-
-pub overflow_add-from : goal.overflow_add-from
-overflow_add-from c = omega (arith, c.place.ensures, c.requires.n_in_bounds)
-
 pub scale-o-requires : goal.scale-o-requires
 scale-o-requires c =
     let a = c.args in
@@ -29,12 +23,6 @@ pub returns-then-is_view : goal.returns-then-is_view
 returns-then-is_view c =
     let a = c.args in
     λ lengths child. put_views (join a.plan.now a.parts.now lengths a.places.now a.body.now a.first a.source) child a.i a.slot a.n a.counters.now a.room.now c.requires.bound.3 c.place.ensures c.requires.n_in_bounds c.at_u64.ensures c.scale-o.ensures (omega (arith, c.well_formed)) c.requires.bound.0 c.requires.bound.1 c.requires.bound.2 (told is_view c.code_of.ensures c.is_view.ensures c.if-is_view.true) c.base_of-base.ensures c.put_views.ensures
-
-pub overflow_mul-w : goal.overflow_mul-w
-overflow_mul-w c = omega (arith, c.place.ensures, c.requires.n_in_bounds)
-
-pub put_copy-requires : goal.put_copy-requires
-put_copy-requires c = (c.requires.first_bound.2, omega arith, omega (arith, c.place.ensures, c.requires.n_in_bounds))
 
 pub returns-then-dictionary_of-eq0 : goal.returns-then-dictionary_of-eq0
 returns-then-dictionary_of-eq0 c =

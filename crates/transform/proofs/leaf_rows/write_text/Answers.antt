@@ -28,16 +28,10 @@ returns-then-not-bytes_in c =
     let a = c.args in
     λ sources lengths source start s. leaf_data a.plan.now a.parts.now sources lengths a.places.now a.body.now a.first source a.i start a.n a.counters.now a.room.now c.requires.counters_len.2 s (omega (arith, c.requires.counters_len.3)) (string_code (code_of a.plan.now a.i) c.requires.i_value.0) c.requires.counters_len.0 c.requires.n_value (text_in (join a.plan.now a.parts.now lengths a.places.now a.body.now a.first source) (copy_walk (join a.plan.now a.parts.now lengths a.places.now a.body.now a.first source) 7) a.i a.slot a.n c.requires.i_value.0 c.requires.i_value.1 c.requires.counters_len.4 false (full a.i a.counters.now) a.room.now refl c.requires.from_value.0 c.requires.from_value.1 (fits_no (join a.plan.now a.parts.now lengths a.places.now a.body.now a.first source) a.i a.w a.from a.n a.last a.lead (full a.i a.counters.now) a.room.now (c.at_u64-old.ensures ∙ sym ((full_alike a.i a.counters.now).bytes_same a.i)) (ap (λ (v : ℕ). extended a.w a.body.now a.from a.n v) c.at_u64-old.ensures ∙ c.requires.from_value.2) c.place-at.ensures c.bytes_in.ensures c.if-not-bytes_in.true-raw)) (λ z. omega arith)
 
-pub room_ground-g-requires : goal.room_ground-g-requires
-room_ground-g-requires c = (c.requires.counters_len.0, c.requires.counters_len.2)
-
 pub returns-then-g-ne0 : goal.returns-then-g-ne0
 returns-then-g-ne0 c =
     let a = c.args in
     λ sources lengths source start s. leaf_parts a.plan.now a.parts.now sources lengths a.places.now a.body.now a.first source a.i start a.n a.counters.now a.room.now c.requires.counters_len.2 s (omega (arith, c.requires.counters_len.3)) (string_code (code_of a.plan.now a.i) c.requires.i_value.0) c.requires.counters_len.0 c.requires.n_value (text_in (join a.plan.now a.parts.now lengths a.places.now a.body.now a.first source) (copy_walk (join a.plan.now a.parts.now lengths a.places.now a.body.now a.first source) 7) a.i a.slot a.n c.requires.i_value.0 c.requires.i_value.1 c.requires.counters_len.4 false (full a.i a.counters.now) a.room.now refl c.requires.from_value.0 c.requires.from_value.1 (fits_dry (join a.plan.now a.parts.now lengths a.places.now a.body.now a.first source) a.i a.w a.from a.n a.last a.lead (full a.i a.counters.now) a.room.now (c.at_u64-old.ensures ∙ sym ((full_alike a.i a.counters.now).bytes_same a.i)) (ap (λ (v : ℕ). extended a.w a.body.now a.from a.n v) c.at_u64-old.ensures ∙ c.requires.from_value.2) (width_in_lem a.w (λ p q. string_wide a.plan.now a.i refl c.requires.i_value.1 refl c.requires.i_value.0)).0 (omega (arith, c.well_formed)) c.place-at.ensures c.bytes_in.ensures c.if-not-bytes_in.false-raw)) refl (set_bytes a.i a.last (add_rows a.i a.n a.counters.now)) (holds_bytes a.plan.now a.parts.now a.i a.n a.counters.now a.last) c.room_ground-g.ensures.value c.room_ground-g.ensures.counters_value c.if-g-ne0.true
-
-pub put_bits-requires : goal.put_bits-requires
-put_bits-requires c = (ap length c.room_ground-g.ensures.counters_value ∙ c.requires.counters_len.0, c.requires.counters_len.1, c.requires.counters_len.2, c.requires.counters_len.3, c.requires.n_value)
 
 pub put_text-requires : goal.put_text-requires
 put_text-requires c =
@@ -46,12 +40,6 @@ put_text-requires c =
     let y = bytes_kept (join a.plan.now a.parts.now [] a.places.now a.body.now a.first 0) a.i a.slot a.n c.room_ground-g.ensures.counters_value (c.put_bits.ensures [] 0) in
     let k = bytes_in_lem (length a.body.now) c.place-at.result a.lead (a.last - c.at_u64-old.result) c.bytes_in.ensures c.if-not-bytes_in.false-raw in
     record { counters_len = (omega (arith, c.counters-2-1.given, c.counters-1.given, ap length c.room_ground-g.ensures.counters_value, c.requires.counters_len.0), c.requires.counters_len.1, c.requires.counters_len.2, c.requires.from_value.1, omega (arith, y, b.0)); w_value = string_wide a.plan.now a.i refl c.requires.i_value.1 refl c.requires.i_value.0; i_in_bounds = omega (arith, y, k, c.place-at.ensures, c.at_u64-old.ensures) }
-
-pub overflow_mul-i-2 : goal.overflow_mul-i-2
-overflow_mul-i-2 c = omega (arith, c.requires.counters_len.2)
-
-pub add_to-requires : goal.add_to-requires
-add_to-requires c = omega (arith, c.counters-3-1.given, c.counters-2-1.given, c.counters-1.given, ap length c.room_ground-g.ensures.counters_value, c.requires.counters_len.0, c.requires.counters_len.2)
 
 pub returns : goal.returns
 returns c =

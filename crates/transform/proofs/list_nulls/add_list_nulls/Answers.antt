@@ -5,9 +5,6 @@ use Rattle.transform.proofs.list_rows.Laws.{offset_wide}
 use Rattle.transform.proofs.list_nulls.Laws.{list_refused, list_made}
 use Rattle.transform.proofs.list_nulls.add_list_nulls.Goals as goal
 
-pub room_ground-g-requires : goal.room_ground-g-requires
-room_ground-g-requires c = c.requires.2
-
 pub returns-then-g-ne0 : goal.returns-then-g-ne0
 returns-then-g-ne0 c =
     let a = c.args in
@@ -23,12 +20,6 @@ pub put_repeated-requires : goal.put_repeated-requires
 put_repeated-requires c =
     let p = c.args.plan.now in
     record { i_bound = (omega arith, omega arith); w_value = (offset_wide p (lists_known p c.requires.2) c.width_at-w.ensures).1 }
-
-pub put_null_mask-requires : goal.put_null_mask-requires
-put_null_mask-requires c = (c.requires.0, omega arith)
-
-pub add_to-requires : goal.add_to-requires
-add_to-requires c = omega (arith, c.counters-1.given, c.requires.0)
 
 pub returns : goal.returns
 returns c =

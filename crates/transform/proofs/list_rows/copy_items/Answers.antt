@@ -21,32 +21,17 @@ overflow_sub-k c =
     let a = c.args in
     omega (arith, c.at_u64.ensures, (fits_is a.w a.body.now a.from a.n (rows a.counters.now 1) refl c.requires.counters_value).0)
 
-pub slot_of-inner-requires : goal.slot_of-inner-requires
-slot_of-inner-requires c = (c.requires.counters_len.1, omega arith)
-
 pub returns-then-inner-ge-FAR : goal.returns-then-inner-ge-FAR
 returns-then-inner-ge-FAR c =
     let a = c.args in
     let o = lists_known a.plan.now c.requires.counters_len.2 in
     λ sources source start s. inner_far a.plan.now a.parts.now sources a.lengths.now a.places.now a.body.now a.first source start a.n a.counters.now a.room.now o s (omega (arith, c.requires.rows_in_lem.4)) c.requires.rows_in_lem.3 c.requires.counters_len.3 c.requires.counters_len.0 c.requires.rows_in_lem.0 c.requires.rows_in_lem.1 c.requires.rows_in_lem.2 c.requires.counters_value (ap (λ (v : ℕ). a.last - v) c.at_u64.ensures) (c.slot_of-inner.ensures a.plan.now a.parts.now a.places.now a.body.now source) c.if-inner-ge-FAR.true
 
-pub bits_in-requires : goal.bits_in-requires
-bits_in-requires c = (c.requires.counters_len.1, omega arith)
-
 pub returns-then-not-bits_in : goal.returns-then-not-bits_in
 returns-then-not-bits_in c =
     let a = c.args in
     let o = lists_known a.plan.now c.requires.counters_len.2 in
     λ sources source start s. inner_bits a.plan.now a.parts.now sources a.lengths.now a.places.now a.body.now a.first source start a.n a.counters.now a.room.now o s (omega (arith, c.requires.rows_in_lem.4)) c.requires.rows_in_lem.3 c.requires.counters_len.3 c.requires.counters_len.0 c.requires.rows_in_lem.0 c.requires.rows_in_lem.1 c.requires.rows_in_lem.2 c.requires.counters_value (ap (λ (v : ℕ). a.last - v) c.at_u64.ensures) (c.slot_of-inner.ensures a.plan.now a.parts.now a.places.now a.body.now source) c.if-inner-ge-FAR.false (no (c.bits_in.ensures a.parts.now a.lengths.now source) c.if-not-bits_in.true-raw)
-
-pub number_size-v-requires : goal.number_size-v-requires
-number_size-v-requires c = ap is_fixed c.code_of.ensures ∙ (lists_known c.args.plan.now c.requires.counters_len.2).items.fixed
-
-pub overflow_add-first : goal.overflow_add-first
-overflow_add-first c = omega (arith, c.requires.counters_len.1)
-
-pub place-at-requires : goal.place-at-requires
-place-at-requires c = omega (arith, c.requires.counters_len.1)
 
 pub rows_in-requires : goal.rows_in-requires
 rows_in-requires c =

@@ -8,17 +8,11 @@ use Rattle.transform.proofs.null_ways.Laws.{lists_known}
 use Rattle.transform.proofs.list_rows.Laws.{rows_far, rows_bits}
 use Rattle.transform.proofs.list_rows.copy_list_rows.Goals as goal
 
-pub slot_of-slot-requires : goal.slot_of-slot-requires
-slot_of-slot-requires c = (c.requires.1, omega arith)
-
 pub returns-then-slot-ge-FAR : goal.returns-then-slot-ge-FAR
 returns-then-slot-ge-FAR c =
     let a = c.args in
     let o = lists_known a.plan.now c.requires.2 in
     λ sources source. rows_far a.plan.now a.parts.now sources a.lengths.now a.places.now a.body.now a.first source a.start a.n a.counters.now a.room.now o (c.slot_of-slot.ensures a.plan.now a.parts.now a.places.now a.body.now source) c.if-slot-ge-FAR.true
-
-pub bits_in-requires : goal.bits_in-requires
-bits_in-requires c = (c.requires.1, omega arith)
 
 pub returns-then-not-bits_in : goal.returns-then-not-bits_in
 returns-then-not-bits_in c =

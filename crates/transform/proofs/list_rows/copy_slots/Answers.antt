@@ -10,15 +10,6 @@ use Rattle.transform.proofs.null_ways.Laws.{lists_known}
 use Rattle.transform.proofs.list_rows.Laws.{offset_wide, offsets_outside, offsets_over, offsets_fall}
 use Rattle.transform.proofs.list_rows.copy_slots.Goals as goal
 
-pub overflow_add-first : goal.overflow_add-first
-overflow_add-first c = omega (arith, c.requires.counters_len.1)
-
-pub place-at-requires : goal.place-at-requires
-place-at-requires c = omega (arith, c.requires.counters_len.1)
-
-pub overflow_add-n : goal.overflow_add-n
-overflow_add-n c = omega (arith, c.requires.n_bound.0)
-
 pub rows_in-requires : goal.rows_in-requires
 rows_in-requires c =
     let p = c.args.plan.now in
@@ -50,9 +41,6 @@ copy_items-requires c =
     let a = c.args in
     let y = rows_in_lem (join [] [] [] [] a.body.now 0 0) c.place-at.result c.width_at-w.result a.slot (a.n + 1) (c.rows_in.ensures [] [] [] [] 0 0) c.if-not-rows_in.false-raw in
     record { counters_len = c.requires.counters_len; rows_in_lem = (c.width_at-w.ensures, ap (λ (v : ℕ). v + c.width_at-w.result * a.slot) c.place-at.ensures, omega (arith, y), c.requires.n_bound.1, omega (arith, c.requires.n_bound.0)); counters_value = ap (λ (v : ℕ). extended c.width_at-w.result a.body.now (c.place-at.result + c.width_at-w.result * a.slot) a.n v) (sym c.at_u64-old.ensures) ∙ sym c.try_offsets.ensures ∙ c.in-Fits.is }
-
-pub returns-in-Fits : goal.returns-in-Fits
-returns-in-Fits c = λ sources source start s. c.copy_items.ensures sources source start s
 
 pub returns-in-Over : goal.returns-in-Over
 returns-in-Over c =

@@ -4,9 +4,6 @@ use Rattle.transform.proofs.numbers.Laws.{root_copied, worse_lt, worse_ge}
 use Rattle.transform.proofs.null_ways.Laws.{lists_known, list_code, list_two}
 use Rattle.transform.proofs.list_rows.list_ground.Goals as goal
 
-pub offsets_ground-offsets-requires : goal.offsets_ground-offsets-requires
-offsets_ground-offsets-requires c = c.requires
-
 pub bits_ground-bits-requires : goal.bits_ground-bits-requires
 bits_ground-bits-requires c =
     let p = c.args.plan.now in

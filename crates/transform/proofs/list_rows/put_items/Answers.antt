@@ -10,34 +10,10 @@ use Rattle.transform.proofs.null_ways.Laws.{lists_known}
 use Rattle.transform.proofs.list_rows.Laws.{items_made}
 use Rattle.transform.proofs.list_rows.put_items.Goals as goal
 
-pub overflow_add-first : goal.overflow_add-first
-overflow_add-first c = omega (arith, c.requires.counters_len.1)
-
-pub place-requires : goal.place-requires
-place-requires c = omega (arith, c.requires.counters_len.1)
-
-pub overflow_mul-from : goal.overflow_mul-from
-overflow_mul-from c = omega (arith, c.place.ensures, c.requires.items_in.1)
-
-pub overflow_add-from : goal.overflow_add-from
-overflow_add-from c = omega (arith, c.place.ensures, c.requires.items_in.1)
-
-pub put_bits-requires : goal.put_bits-requires
-put_bits-requires c = (c.requires.counters_len.0, c.requires.counters_len.1, omega arith, omega (arith, c.requires.items_in.3), c.requires.items_in.2)
-
 pub scale-o-requires : goal.scale-o-requires
 scale-o-requires c =
     let p = c.args.plan.now in
     number_wide (code_of p 1) (lists_known p c.requires.counters_len.2).items.fixed c.requires.items_in.0
-
-pub overflow_mul-v : goal.overflow_mul-v
-overflow_mul-v c = omega (arith, c.place.ensures, c.requires.items_in.1)
-
-pub put_copy-requires : goal.put_copy-requires
-put_copy-requires c = (omega arith, omega arith, omega (arith, c.place.ensures, c.requires.items_in.1))
-
-pub add_to-requires : goal.add_to-requires
-add_to-requires c = omega (arith, c.counters-1.given, c.requires.counters_len.0)
 
 pub returns : goal.returns
 returns c =

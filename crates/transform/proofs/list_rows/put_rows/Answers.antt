@@ -5,9 +5,6 @@ use Rattle.transform.proofs.null_ways.Laws.{lists_known}
 use Rattle.transform.proofs.list_rows.Laws.{offset_wide, rows_made}
 use Rattle.transform.proofs.list_rows.put_rows.Goals as goal
 
-pub put_bits-requires : goal.put_bits-requires
-put_bits-requires c = (c.requires.counters_len.0, c.requires.counters_len.1, omega arith, omega (arith, c.requires.rows_in_lem.4), c.requires.rows_in_lem.3)
-
 pub scale-o-requires : goal.scale-o-requires
 scale-o-requires c =
     let p = c.args.plan.now in
@@ -17,12 +14,6 @@ pub put_offsets-requires : goal.put_offsets-requires
 put_offsets-requires c =
     let p = c.args.plan.now in
     record { i_bound = (omega arith, omega arith, c.requires.rows_in_lem.2); w_value = (offset_wide p (lists_known p c.requires.counters_len.2) c.requires.rows_in_lem.0).1 }
-
-pub put_items-requires : goal.put_items-requires
-put_items-requires c = record { counters_len = (omega (arith, c.counters-1.given, c.requires.counters_len.0), c.requires.counters_len.1, c.requires.counters_len.2); items_in = c.requires.items_in }
-
-pub add_to-requires : goal.add_to-requires
-add_to-requires c = omega (arith, c.counters-1.given, c.counters-2-1.given, c.requires.counters_len.0)
 
 pub returns : goal.returns
 returns c =

@@ -7,12 +7,6 @@ use Rattle.transform.proofs.numbers.Laws.{worse_ge, worse_up}
 use Rattle.transform.proofs.null_ways.Laws.{lists_known, lists_ground, items_copied}
 use Rattle.transform.proofs.list_rows.room_ground.Goals as goal
 
-pub list_ground-list-requires : goal.list_ground-list-requires
-list_ground-list-requires c = c.requires
-
-pub number_size-w-requires : goal.number_size-w-requires
-number_size-w-requires c = ap is_fixed c.code_of.ensures ∙ (lists_known c.args.plan.now c.requires).items.fixed
-
 pub node_ground-g-requires : goal.node_ground-g-requires
 node_ground-g-requires c =
     let p = c.args.plan.now in

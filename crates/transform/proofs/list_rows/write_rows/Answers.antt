@@ -5,17 +5,11 @@ use Rattle.transform.proofs.null_ways.Laws.{lists_known}
 use Rattle.transform.proofs.list_rows.Laws.{items_within, rows_refused, rows_settled}
 use Rattle.transform.proofs.list_rows.write_rows.Goals as goal
 
-pub room_ground-g-requires : goal.room_ground-g-requires
-room_ground-g-requires c = c.requires.counters_len.2
-
 pub returns-then-g-ne0 : goal.returns-then-g-ne0
 returns-then-g-ne0 c =
     let a = c.args in
     let o = lists_known a.plan.now c.requires.counters_len.2 in
     λ sources lengths source start last lead s r. rows_refused a.plan.now a.parts.now sources lengths a.places.now a.body.now a.first source start a.n a.counters.now a.room.now o s (omega (arith, c.requires.rows_in_lem.4)) c.requires.rows_in_lem.3 c.requires.counters_len.3 c.requires.counters_len.0 c.requires.rows_in_lem.0 c.requires.rows_in_lem.1 c.requires.rows_in_lem.2 r.0 r.1 r.2 (omega (arith, c.requires.items_in.3)) c.requires.items_in.2 (items_within (join a.plan.now a.parts.now lengths a.places.now a.body.now a.first source) a.inner a.k c.requires.items_in.0 c.requires.items_in.1) c.at_u64.ensures c.grow-r.ensures c.at_u64-2.ensures c.grow-items.ensures c.room_ground-g.ensures c.if-g-ne0.true
-
-pub put_rows-requires : goal.put_rows-requires
-put_rows-requires c = record { counters_len = c.requires.counters_len; rows_in_lem = c.requires.rows_in_lem; items_in = c.requires.items_in }
 
 pub returns : goal.returns
 returns c =

@@ -8,24 +8,6 @@ use Rattle.plan.specs.parts.Parts.{nodes_of}
 use Rattle.transform.proofs.null_ways.Laws.{never}
 use Rattle.transform.proofs.null_ways.is_kept_keys.Goals as goal
 
-pub returns-then-node_count-ne2 : goal.returns-then-node_count-ne2
-returns-then-node_count-ne2 c = λ z. never z
-
-pub returns-then-end_of-ne2 : goal.returns-then-end_of-ne2
-returns-then-end_of-ne2 c = λ z. never z
-
-pub returns-then-end_of-ne2-2 : goal.returns-then-end_of-ne2-2
-returns-then-end_of-ne2-2 c = λ z. never z
-
-pub returns-then-dictionary_of-ne0 : goal.returns-then-dictionary_of-ne0
-returns-then-dictionary_of-ne0 c = λ z. never z
-
-pub returns-then-code_of-gt-LAST_LEAF : goal.returns-then-code_of-gt-LAST_LEAF
-returns-then-code_of-gt-LAST_LEAF c = λ z. never z
-
-pub returns-then-is_copied : goal.returns-then-is_copied
-returns-then-is_copied c = λ z. never z
-
 pub returns : goal.returns
 returns c =
     let p = c.args.plan.now in

@@ -8,18 +8,6 @@ use Rattle.transform.proofs.leaf_rows.Entries.{told}
 use Rattle.transform.proofs.null_ways.Laws.{never, sure}
 use Rattle.transform.proofs.null_ways.is_list.Goals as goal
 
-pub returns-then-node_count-ne2 : goal.returns-then-node_count-ne2
-returns-then-node_count-ne2 c = λ z. never z
-
-pub returns-then-not-is_list : goal.returns-then-not-is_list
-returns-then-not-is_list c = λ z. never z
-
-pub returns-then-dictionary_of-ne0 : goal.returns-then-dictionary_of-ne0
-returns-then-dictionary_of-ne0 c = λ z. never z
-
-pub returns-then-end_of-ne2 : goal.returns-then-end_of-ne2
-returns-then-end_of-ne2 c = λ z. never z
-
 pub returns : goal.returns
 returns c =
     let p = c.args.plan.now in

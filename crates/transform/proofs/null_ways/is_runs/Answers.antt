@@ -7,24 +7,6 @@ use Rattle.plan.specs.parts.Parts.{nodes_of}
 use Rattle.transform.proofs.null_ways.Laws.{never, sure}
 use Rattle.transform.proofs.null_ways.is_runs.Goals as goal
 
-pub returns-then-node_count-ne3 : goal.returns-then-node_count-ne3
-returns-then-node_count-ne3 c = λ z. never z
-
-pub returns-then-code_of-ne-RUN_END : goal.returns-then-code_of-ne-RUN_END
-returns-then-code_of-ne-RUN_END c = λ z. never z
-
-pub returns-then-dictionary_of-ne0 : goal.returns-then-dictionary_of-ne0
-returns-then-dictionary_of-ne0 c = λ z. never z
-
-pub returns-then-end_of-ne3 : goal.returns-then-end_of-ne3
-returns-then-end_of-ne3 c = λ z. never z
-
-pub returns-then-not-is_numbers_at : goal.returns-then-not-is_numbers_at
-returns-then-not-is_numbers_at c = λ z. never z
-
-pub returns-then-not-is_numbers_at-2 : goal.returns-then-not-is_numbers_at-2
-returns-then-not-is_numbers_at-2 c = λ z. never z
-
 pub returns : goal.returns
 returns c =
     let p = c.args.plan.now in

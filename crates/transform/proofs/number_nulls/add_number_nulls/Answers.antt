@@ -12,12 +12,6 @@ use Rattle.transform.proofs.leaf_nulls.Laws.{nulls_refused, nulls_made}
 use Rattle.transform.proofs.numbers.Laws.{first_node, fixed_low, raised_rows, numbers_fit}
 use Rattle.transform.proofs.number_nulls.add_number_nulls.Goals as goal
 
-pub number_size-w-requires : goal.number_size-w-requires
-number_size-w-requires c = ap is_fixed c.code_of.ensures ∙ (first_node c.args.plan.now c.requires.2).fixed
-
-pub room_ground-g-requires : goal.room_ground-g-requires
-room_ground-g-requires c = (c.requires.2, c.number_size-w.ensures ∙ ap entry_size c.code_of.ensures)
-
 pub returns-then-g-ne0 : goal.returns-then-g-ne0
 returns-then-g-ne0 c =
     let a = c.args in
@@ -34,12 +28,6 @@ put_zeros-requires c =
     let t = set_bytes 0 (bytes a.counters.now 0) (add_rows 0 a.n a.counters.now) in
     let r = raised_rows a.n (bytes a.counters.now 0) a.counters.now c.requires.0 c.at_u64.ensures c.grow-r.ensures in
     (o.fixed, e, numbers_fit a.plan.now a.parts.now t (length a.room.now) o (c.room_ground-g.ensures t r) c.if-g-ne0.false (rows a.counters.now 0) a.n c.at_u64.ensures (r ∙ c.grow-r.ensures) e (omega (arith, c.well_formed)))
-
-pub put_null_mask-requires : goal.put_null_mask-requires
-put_null_mask-requires c = (c.requires.0, omega arith)
-
-pub add_to-requires : goal.add_to-requires
-add_to-requires c = omega (arith, c.counters-1.given, c.requires.0)
 
 pub returns : goal.returns
 returns c =

@@ -16,9 +16,6 @@ use Rattle.transform.proofs.leaf_rows.Entries.{entries_are, entries_out, entries
 use Rattle.transform.proofs.numbers.Laws.{one_node, one_first, first_one, fixed_low, no_offsets, number_wide, raised_rows, numbers_fit, rows_kept}
 use Rattle.transform.proofs.numbers.copy_slots.Goals as goal
 
-pub number_size-w-requires : goal.number_size-w-requires
-number_size-w-requires c = ap is_fixed c.code_of.ensures ∙ (one_node c.args.plan.now c.requires.counters_len.3).fixed
-
 pub rows_in-requires : goal.rows_in-requires
 rows_in-requires c =
     let a = c.args in
@@ -31,18 +28,12 @@ returns-then-not-rows_in c =
     let l = fixed_low (code_of a.plan.now 0) f in
     λ sources lengths source start s. let x = join a.plan.now a.parts.now lengths a.places.now a.body.now a.first source in leaf_data a.plan.now a.parts.now sources lengths a.places.now a.body.now a.first source 0 start a.n a.counters.now a.room.now (omega arith) s (omega (arith, c.requires.counters_len.2)) (omega (arith, l.1)) c.requires.counters_len.0 c.requires.n_value (entries_out x (copy_walk x 7) 0 a.slot a.n (full 0 a.counters.now) a.room.now (entries_are x (copy_walk x 7) 0 a.slot a.n (full 0 a.counters.now) l.0 (omega (arith, l.1)) (no_offsets (code_of a.plan.now 0) f).0) (rw (c.place-at.ensures, c.number_size-w.ensures ∙ ap entry_size c.code_of.ensures) at (no (c.rows_in.ensures a.plan.now a.parts.now lengths a.places.now a.first source) c.if-not-rows_in.true-raw))) (λ z. omega arith)
 
-pub room_ground-g-requires : goal.room_ground-g-requires
-room_ground-g-requires c = (first_one c.args.plan.now c.requires.counters_len.3, c.number_size-w.ensures ∙ ap entry_size c.code_of.ensures)
-
 pub returns-then-g-ne0 : goal.returns-then-g-ne0
 returns-then-g-ne0 c =
     let a = c.args in
     let f = (one_node a.plan.now c.requires.counters_len.3).fixed in
     let l = fixed_low (code_of a.plan.now 0) f in
     λ sources lengths source start s. let x = join a.plan.now a.parts.now lengths a.places.now a.body.now a.first source in leaf_parts a.plan.now a.parts.now sources lengths a.places.now a.body.now a.first source 0 start a.n a.counters.now a.room.now (omega arith) s (omega (arith, c.requires.counters_len.2)) (omega (arith, l.1)) c.requires.counters_len.0 c.requires.n_value (entries_dry x (copy_walk x 7) 0 a.slot a.n (full 0 a.counters.now) a.room.now (entries_are x (copy_walk x 7) 0 a.slot a.n (full 0 a.counters.now) l.0 (omega (arith, l.1)) (no_offsets (code_of a.plan.now 0) f).0) (rw (c.place-at.ensures, c.number_size-w.ensures ∙ ap entry_size c.code_of.ensures) at (yes (c.rows_in.ensures a.plan.now a.parts.now lengths a.places.now a.first source) c.if-not-rows_in.false-raw))) refl (set_bytes 0 (bytes a.counters.now 0) (add_rows 0 a.n a.counters.now)) (holds_rows a.plan.now a.parts.now 0 a.n a.counters.now (full_alike 0 a.counters.now) refl) (c.room_ground-g.ensures (set_bytes 0 (bytes a.counters.now 0) (add_rows 0 a.n a.counters.now)) (raised_rows a.n (bytes a.counters.now 0) a.counters.now c.requires.counters_len.0 c.at_u64-p.ensures c.grow-r.ensures)) refl c.if-g-ne0.true
-
-pub put_validity-requires : goal.put_validity-requires
-put_validity-requires c = (c.requires.counters_len.0, c.requires.counters_len.1, omega arith, c.requires.counters_len.2, c.requires.n_value)
 
 pub put_numbers-requires : goal.put_numbers-requires
 put_numbers-requires c =

@@ -7,9 +7,6 @@ use Rattle.plan.proofs.grounds.Laws.{part_some}
 use Rattle.transform.proofs.numbers.Laws.{has_numbers, number_wide, entries_need}
 use Rattle.transform.proofs.numbers.entries_ground.Goals as goal
 
-pub overflow_cast-w : goal.overflow_cast-w
-overflow_cast-w c = omega (arith, (number_wide (code_of c.args.plan.now c.args.i) c.requires.1 c.requires.2).1)
-
 pub returns : goal.returns
 returns c =
     let a = c.args in

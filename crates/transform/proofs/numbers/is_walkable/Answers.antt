@@ -4,6 +4,3 @@ use Rattle.transform.proofs.numbers.is_walkable.Goals as goal
 
 pub returns-then-known : goal.returns-then-known
 returns-then-known c = sound_walkable c.args.plan.now c.args.m (c.requires c.if-known.true)
-
-pub returns : goal.returns
-returns c = c.is_walkable.ensures

@@ -4,9 +4,6 @@ use Rattle.walk.specs.State.{code_of}
 use Rattle.transform.proofs.numbers.Laws.{fixed_low, two_parts, worse_lt, worse_ge}
 use Rattle.transform.proofs.numbers.node_ground.Goals as goal
 
-pub entries_ground-entries-requires : goal.entries_ground-entries-requires
-entries_ground-entries-requires c = c.requires
-
 pub bits_ground-bits-requires : goal.bits_ground-bits-requires
 bits_ground-bits-requires c =
     let a = c.args in

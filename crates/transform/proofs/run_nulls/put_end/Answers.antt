@@ -11,15 +11,6 @@ use Rattle.nested_rows.proofs.Laws.{wide_in, end_yes, half_top}
 use Rattle.transform.proofs.run_nulls.Laws.{width_is, gap_begun}
 use Rattle.transform.proofs.run_nulls.put_end.Goals as goal
 
-pub overflow_add-end : goal.overflow_add-end
-overflow_add-end c = omega (arith, c.at_u64.ensures, ltb-true (rows c.args.counters.now 0 + c.args.n) (half c.args.w) c.requires.w_value, half_top c.args.w (width_is c.args.w c.requires.counters_len.2))
-
-pub scale-o-requires : goal.scale-o-requires
-scale-o-requires c = omega (arith, wide_in c.args.w (width_is c.args.w c.requires.counters_len.2))
-
-pub put_number-requires : goal.put_number-requires
-put_number-requires c = record { i_bound = (omega arith, omega arith); w_value = λ p. width_is c.args.w c.requires.counters_len.2 }
-
 pub returns : goal.returns
 returns c =
     let a = c.args in

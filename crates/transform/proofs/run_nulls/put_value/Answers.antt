@@ -13,22 +13,10 @@ use Rattle.transform.proofs.leaf_nulls.Laws as nulls
 use Rattle.transform.proofs.run_nulls.Laws.{value_did}
 use Rattle.transform.proofs.run_nulls.put_value.Goals as goal
 
-pub number_size-w-requires : goal.number_size-w-requires
-number_size-w-requires c = ap is_fixed c.code_of.ensures ∙ c.requires.1
-
-pub scale-o-requires : goal.scale-o-requires
-scale-o-requires c = number_wide (code_of c.args.plan.now 2) c.requires.1 (c.number_size-w.ensures ∙ ap entry_size c.code_of.ensures)
-
 pub put_zeros-requires : goal.put_zeros-requires
 put_zeros-requires c =
     let w = number_wide (code_of c.args.plan.now 2) c.requires.1 (c.number_size-w.ensures ∙ ap entry_size c.code_of.ensures) in
     (omega arith, omega arith, w.0, w.1)
-
-pub put_null_mask-requires : goal.put_null_mask-requires
-put_null_mask-requires c = (c.requires.0, omega arith)
-
-pub add_to-requires : goal.add_to-requires
-add_to-requires c = omega (arith, c.counters-1.given, c.requires.0)
 
 pub returns : goal.returns
 returns c =

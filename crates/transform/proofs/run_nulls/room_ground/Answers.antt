@@ -13,9 +13,6 @@ node_ground-runs-requires c =
     let r = runs_known p c.requires.0 in
     (omega arith, r.ends.fixed, c.requires.1, ends_copied p r)
 
-pub number_size-v-requires : goal.number_size-v-requires
-number_size-v-requires c = ap is_fixed c.code_of.ensures ∙ (runs_known c.args.plan.now c.requires.0).values.fixed
-
 pub node_ground-g-requires : goal.node_ground-g-requires
 node_ground-g-requires c =
     let p = c.args.plan.now in

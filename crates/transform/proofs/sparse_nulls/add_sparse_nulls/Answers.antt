@@ -8,26 +8,11 @@ returns-then-h-ge32 c =
     let a = c.args in
     λ sources lengths places body. sparse_homeless a.plan.now a.parts.now sources lengths places body a.n a.counters.now a.room.now c.requires.1 c.requires.2 c.null_home-h.ensures.value c.if-h-ge32.true c.no_home.ensures
 
-pub fields_ground-g-requires : goal.fields_ground-g-requires
-fields_ground-g-requires c = (omega (arith, c.node_count-end.ensures.upper_bound), c.node_count-end.ensures.value, c.requires.2)
-
 pub returns-then-g-ne0 : goal.returns-then-g-ne0
 returns-then-g-ne0 c =
     let a = c.args in
     let n = c.node_count-end.ensures in
     λ sources lengths places body. sparse_refused a.plan.now a.parts.now sources lengths places body a.n a.counters.now a.room.now c.requires.1 c.requires.2 c.null_home-h.ensures.value c.if-h-ge32.false c.requires.0 n.value (omega (arith, n.upper_bound)) c.fields_ground-g.ensures c.if-g-ne0.true
-
-pub put_ids-requires : goal.put_ids-requires
-put_ids-requires c = c.if-h-ge32.false
-
-pub put_fields-requires : goal.put_fields-requires
-put_fields-requires c = (c.requires.0, omega (arith, c.node_count-end.ensures.upper_bound), c.node_count-end.ensures.value, c.requires.2, c.requires.1)
-
-pub count_nulls-requires : goal.count_nulls-requires
-count_nulls-requires c = omega (arith, c.counters-1.given, c.requires.0)
-
-pub add_to-requires : goal.add_to-requires
-add_to-requires c = omega (arith, c.counters-2-1.given, c.counters-1.given, c.requires.0)
 
 pub returns : goal.returns
 returns c =

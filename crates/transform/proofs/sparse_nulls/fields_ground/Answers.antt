@@ -9,23 +9,11 @@ use Rattle.plan.proofs.grounds.Laws.{nodes_more, nodes_all}
 use Rattle.transform.proofs.sparse_rows.Fields.{field_at, field_copied}
 use Rattle.transform.proofs.sparse_nulls.fields_ground.Goals as goal
 
-pub ids_ground-g-requires : goal.ids_ground-g-requires
-ids_ground-g-requires c = c.requires.2.code
-
 pub loop-k-init : goal.loop-k-init
 loop-k-init c =
     let a = c.args in
     let p : 1 ≤ a.end = omega (arith, c.requires.2.some, c.requires.1) in
     λ t h. c.ids_ground-g.ensures t (h 0 p ∙ ap (λ (v : ℕ). grown v a.n) (sym c.at_u64.ensures) ∙ sym c.grow-r.ensures)
-
-pub code_of-requires : goal.code_of-requires
-code_of-requires c = omega (arith, c.loop-k-test.true, c.requires.0)
-
-pub number_size-w-requires : goal.number_size-w-requires
-number_size-w-requires c = ap is_fixed c.code_of.ensures ∙ (field_at c.args.plan.now c.requires.2 c.loop-k.k c.loop-k.auto.k (omega (arith, c.loop-k-test.true, c.requires.1))).fixed
-
-pub overflow_mul-k : goal.overflow_mul-k
-overflow_mul-k c = omega (arith, c.loop-k-test.true, c.requires.0)
 
 pub node_ground-requires : goal.node_ground-requires
 node_ground-requires c =

@@ -14,12 +14,6 @@ use Rattle.transform.proofs.null_ways.Laws.{numbers_at_lem}
 use Rattle.transform.proofs.sparse_nulls.Laws.{field_did}
 use Rattle.transform.proofs.sparse_nulls.put_field.Goals as goal
 
-pub number_size-w-requires : goal.number_size-w-requires
-number_size-w-requires c = ap is_fixed c.code_of.ensures ∙ (numbers_at_lem c.args.plan.now c.args.k c.requires.2).fixed
-
-pub overflow_mul-k : goal.overflow_mul-k
-overflow_mul-k c = omega (arith, c.requires.1)
-
 pub scale-o-requires : goal.scale-o-requires
 scale-o-requires c =
     let a = c.args in
@@ -30,15 +24,6 @@ put_zeros-requires c =
     let a = c.args in
     let w = number_wide (code_of a.plan.now a.k) (numbers_at_lem a.plan.now a.k c.requires.2).fixed (c.number_size-w.ensures ∙ ap entry_size c.code_of.ensures) in
     (c.requires.1, omega arith, w.0, w.1)
-
-pub put_null_mask-requires : goal.put_null_mask-requires
-put_null_mask-requires c = (c.requires.0, c.requires.1)
-
-pub overflow_mul-k-2 : goal.overflow_mul-k-2
-overflow_mul-k-2 c = omega (arith, c.requires.1)
-
-pub add_to-requires : goal.add_to-requires
-add_to-requires c = omega (arith, c.counters-1.given, c.requires.0, c.requires.1)
 
 pub returns : goal.returns
 returns c =

@@ -11,9 +11,6 @@ use Rattle.extend.proofs.NullLaws.{fields_none, fields_more}
 use Rattle.transform.proofs.sparse_rows.Fields.{field_at}
 use Rattle.transform.proofs.sparse_nulls.put_fields.Goals as goal
 
-pub loop-k-init : goal.loop-k-init
-loop-k-init c = λ g c2 room2 d. d
-
 pub put_field-requires : goal.put_field-requires
 put_field-requires c =
     let k = c.loop-k.k in

@@ -23,9 +23,6 @@ returns-then-not-rows_in c =
     let a = c.args in
     λ sources source. sparse_ids a.plan.now a.parts.now sources a.lengths.now a.places.now a.body.now a.first source a.start a.n a.counters.now a.room.now c.requires.2 (c.slot_of-slot.ensures a.plan.now a.parts.now a.places.now a.body.now source) c.if-slot-ge-FAR.false (rows_no (join a.plan.now a.parts.now a.lengths.now a.places.now a.body.now a.first source) c.slot_of-slot.result a.n c.place.ensures (c.rows_in.ensures a.plan.now a.parts.now a.lengths.now a.places.now a.first source) c.if-not-rows_in.true-raw)
 
-pub fields_ground-g-requires : goal.fields_ground-g-requires
-fields_ground-g-requires c = (c.requires.1, omega (arith, c.node_count-end.ensures.upper_bound), c.node_count-end.ensures.value, c.requires.2)
-
 pub returns-then-g-ne0 : goal.returns-then-g-ne0
 returns-then-g-ne0 c =
     let a = c.args in
@@ -40,9 +37,6 @@ pub put_fields-requires : goal.put_fields-requires
 put_fields-requires c =
     let a = c.args in
     record { counters_len = (c.requires.0, c.requires.1, omega (arith, c.node_count-end.ensures.upper_bound), c.node_count-end.ensures.value, c.requires.2); end_value = sparse_in a.plan.now a.parts.now [] a.lengths.now a.places.now a.body.now a.first 0 a.start a.n a.counters.now a.room.now c.requires.2 (c.slot_of-slot.ensures a.plan.now a.parts.now a.places.now a.body.now 0) c.if-slot-ge-FAR.false (rows_yes (join a.plan.now a.parts.now a.lengths.now a.places.now a.body.now a.first 0) c.slot_of-slot.result a.n c.place.ensures (c.rows_in.ensures a.plan.now a.parts.now a.lengths.now a.places.now a.first 0) c.if-not-rows_in.false-raw) c.requires.0 c.node_count-end.ensures.value (omega (arith, c.node_count-end.ensures.upper_bound)) (c.fields_ground-g.ensures.by_index 0) (c.fields_ground-g.ensures.by_index_2 0) c.if-g-ne0.false }
-
-pub add_to-requires : goal.add_to-requires
-add_to-requires c = omega (arith, c.counters-1.given, c.requires.0)
 
 pub returns : goal.returns
 returns c =

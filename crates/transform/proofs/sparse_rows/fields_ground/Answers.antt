@@ -15,20 +15,11 @@ use Rattle.transform.proofs.sparse_rows.Fields.{field_at, field_copied}
 use Rattle.transform.proofs.sparse_rows.Laws.{fields_over, fields_no, fields_yes}
 use Rattle.transform.proofs.sparse_rows.fields_ground.Goals as goal
 
-pub ids_ground-g-requires : goal.ids_ground-g-requires
-ids_ground-g-requires c = c.requires.3.code
-
 pub loop-k-init : goal.loop-k-init
 loop-k-init c =
     let a = c.args in
     let p : 1 ≤ a.end = omega (arith, c.requires.3.some, c.requires.2) in
     (λ source. refl, λ t h. c.ids_ground-g.ensures t (h 0 p ∙ ap (λ (v : ℕ). grown v a.n) (sym c.at_u64.ensures) ∙ sym c.grow-r.ensures))
-
-pub code_of-requires : goal.code_of-requires
-code_of-requires c = omega (arith, c.loop-k-test.true, c.requires.1)
-
-pub number_size-w-requires : goal.number_size-w-requires
-number_size-w-requires c = ap is_fixed c.code_of.ensures ∙ (field_at c.args.plan.now c.requires.3 c.loop-k.k c.loop-k.auto.k (omega (arith, c.loop-k-test.true, c.requires.2))).fixed
 
 pub field_in-requires : goal.field_in-requires
 field_in-requires c =
@@ -41,9 +32,6 @@ returns-then-not-field_in c =
     let a = c.args in
     let k = c.loop-k.k in
     record { by_index = λ source z. refl; by_index_2 = λ source t z h. never (sym (c.loop-k.invariant.0 source ∙ fields_no (join a.plan.now a.parts.now a.lengths.now a.places.now a.body.now a.first source) a.row a.n a.end k {f' = 33 - (k + 1)} (omega (arith, c.loop-k-test.true, c.requires.1)) c.loop-k-test.true (no (c.field_in.ensures a.parts.now source) c.if-not-field_in.true-raw)) ∙ z) }
-
-pub overflow_mul-k : goal.overflow_mul-k
-overflow_mul-k c = omega (arith, c.loop-k-test.true, c.requires.1)
 
 pub node_ground-requires : goal.node_ground-requires
 node_ground-requires c =

@@ -8,12 +8,6 @@ use Rattle.walk.specs.State.{dictionary_of, end_of}
 use Rattle.transform.proofs.null_ways.Laws.{never}
 use Rattle.transform.proofs.sparse_rows.is_field.Goals as goal
 
-pub returns-then-end_of-k : goal.returns-then-end_of-k
-returns-then-end_of-k c = λ z. never z
-
-pub returns-then-dictionary_of-ne0 : goal.returns-then-dictionary_of-ne0
-returns-then-dictionary_of-ne0 c = λ z. never z
-
 pub returns : goal.returns
 returns c =
     let a = c.args in

@@ -4,21 +4,6 @@ use native.Mathlib.Omega.{arith}
 use Rattle.transform.proofs.null_ways.Laws.{never}
 use Rattle.transform.proofs.sparse_rows.is_sparse.Goals as goal
 
-pub returns-then-code_of-ne-SPARSE : goal.returns-then-code_of-ne-SPARSE
-returns-then-code_of-ne-SPARSE c = λ z. never z
-
-pub returns-then-dictionary_of-ne0 : goal.returns-then-dictionary_of-ne0
-returns-then-dictionary_of-ne0 c = λ z. never z
-
-pub returns-then-n-eq0 : goal.returns-then-n-eq0
-returns-then-n-eq0 c = λ z. never z
-
-pub returns-then-end_of-n : goal.returns-then-end_of-n
-returns-then-end_of-n c = λ z. never z
-
-pub are_fields-requires : goal.are_fields-requires
-are_fields-requires c = omega (arith, c.node_count-n.ensures.upper_bound)
-
 pub returns : goal.returns
 returns c = λ z.
     record {

@@ -12,9 +12,6 @@ use Rattle.transform.proofs.null_ways.Laws.{numbers_at_lem}
 use Rattle.transform.proofs.sparse_rows.Laws.{field_known, field_place, field_did}
 use Rattle.transform.proofs.sparse_rows.put_field.Goals as goal
 
-pub number_size-w-requires : goal.number_size-w-requires
-number_size-w-requires c = ap is_fixed c.code_of.ensures ∙ (numbers_at_lem c.args.plan.now c.args.k c.requires.counters_len.3).fixed
-
 pub put_validity-requires : goal.put_validity-requires
 put_validity-requires c =
     let a = c.args in
@@ -28,12 +25,6 @@ put_entries-requires c =
     let f = field_known (join a.plan.now a.parts.now a.lengths.now a.places.now a.body.now a.first 0) a.k a.row a.n (c.slot_of-at.ensures a.plan.now a.parts.now a.places.now a.body.now 0) c.requires.n_value in
     let v = number_wide (code_of a.plan.now a.k) (numbers_at_lem a.plan.now a.k c.requires.counters_len.3).fixed w in
     record { first_bound = (c.requires.counters_len.1, c.requires.counters_len.2, omega (arith, slot_rows (join [] [] a.lengths.now [] [] a.first 0) a.k a.row a.n (c.slot_of-at.ensures [] [] [] [] 0) f.0), v.0, v.1); n_in_bounds = field_place (join a.plan.now a.parts.now a.lengths.now a.places.now a.body.now a.first 0) a.k c.slot_of-at.result a.n w f.2 }
-
-pub overflow_mul-k : goal.overflow_mul-k
-overflow_mul-k c = omega (arith, c.requires.counters_len.2)
-
-pub add_to-requires : goal.add_to-requires
-add_to-requires c = omega (arith, c.counters-1.given, c.requires.counters_len.0, c.requires.counters_len.2)
 
 pub returns : goal.returns
 returns c =

@@ -11,9 +11,6 @@ use Rattle.transform.proofs.sparse_rows.Fields.{field_at}
 use Rattle.transform.proofs.sparse_rows.Laws.{fields_split}
 use Rattle.transform.proofs.sparse_rows.put_fields.Goals as goal
 
-pub loop-k-init : goal.loop-k-init
-loop-k-init c = (c.requires.end_value, λ source g c2 room2 d. d)
-
 pub put_field-requires : goal.put_field-requires
 put_field-requires c =
     let a = c.args in

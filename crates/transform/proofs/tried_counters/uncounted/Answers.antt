@@ -4,15 +4,6 @@ use native.Mathlib.Omega.{arith}
 use Rattle.transform.proofs.tried_counters.Laws.{beyond_all, full_none, full_more}
 use Rattle.transform.proofs.tried_counters.uncounted.Goals as goal
 
-pub reload-requires : goal.reload-requires
-reload-requires c = (c.requires.0, omega arith, beyond_all c.args.tally.now c.args.counters.now c.told-tally c.requires.0)
-
-pub loop-i-init : goal.loop-i-init
-loop-i-init c = full_none c.args.counters.now _ c.args.n c.reload.ensures
-
-pub bounds-tally-i : goal.bounds-tally-i
-bounds-tally-i c = omega (arith, c.loop-i.invariant.0.0.size)
-
 pub loop-i-preserved : goal.loop-i-preserved
 loop-i-preserved c =
     let l = c.loop-i in

@@ -12,9 +12,6 @@ use Rattle.transform.proofs.Laws.{settled_no, settled_parts, settled_made}
 use Rattle.transform.proofs.tried_counters.Laws.{null_tried, null_made, null_long}
 use Rattle.transform.proofs.tried_walks.add_nulls.Goals as goal
 
-pub load-tally-requires : goal.load-tally-requires
-load-tally-requires c = c.requires.0
-
 pub returns-then-g-ne0 : goal.returns-then-g-ne0
 returns-then-g-ne0 c =
     let z = c.args in

@@ -12,12 +12,6 @@ use Rattle.transform.proofs.Laws.{settled_no, settled_parts, settled_made}
 use Rattle.transform.proofs.tried_counters.Laws.{copy_tried, copy_made, copy_long}
 use Rattle.transform.proofs.tried_walks.copy_rows.Goals as goal
 
-pub uncounted-requires : goal.uncounted-requires
-uncounted-requires c = (c.requires.0, c.node_count-nodes.ensures.upper_bound)
-
-pub extend-g-requires : goal.extend-g-requires
-extend-g-requires c = (c.requires.1, c.requires.2)
-
 pub returns-then-g-ne0 : goal.returns-then-g-ne0
 returns-then-g-ne0 c =
     let z = c.args in
@@ -39,9 +33,6 @@ pub reload-requires : goal.reload-requires
 reload-requires c =
     let z = c.args in
     (c.requires.0, c.node_count-nodes.ensures.upper_bound, copy_tried (join z.plan.now z.parts.now z.lengths.now z.places.now z.body.now z.first z.source) (length z.room.now) c.requires.3 _ c.node_count-nodes.ensures.value z.start z.n _ _ z.counters.now c.uncounted.ensures.beyond c.extend-g.ensures.counters)
-
-pub extend-g-requires-2 : goal.extend-g-requires-2
-extend-g-requires-2 c = (c.requires.1, c.requires.2)
 
 pub keep-requires : goal.keep-requires
 keep-requires c =
