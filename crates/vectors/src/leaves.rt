@@ -1,6 +1,7 @@
 // Runs the leaves on vectors of 01's table and on edges, and writes what they make.
 ghost use Rattle.std.specs.Prelude.{◌+◌, ◌≤◌, length};
 
+use number::Signed;
 use std::io;
 
 fn wide(x: u8) -> u64 {
@@ -30,28 +31,25 @@ fn put_pattern(rt: &impl Print, p: u64, half: u64) -> io::Result<()> {
         put(rt, p)?;
     } else {
         rt.write_all(b"-")?;
-        put(
-            rt,
-            std::num::wrapping_sub_u64(std::num::wrapping_add_u64(half, half), p),
-        )?;
+        put(rt, half.wrapping_add(half).wrapping_sub(p))?;
     }
     Ok(())
 }
 
 fn put_i8(rt: &impl Print, x: i8) -> io::Result<()> {
-    put_pattern(rt, wide(number::pattern_i8(x)), 128)
+    put_pattern(rt, wide(x.pattern()), 128)
 }
 
 fn put_i16(rt: &impl Print, x: i16) -> io::Result<()> {
-    put_pattern(rt, wide16(number::pattern_i16(x)), 32768)
+    put_pattern(rt, wide16(x.pattern()), 32768)
 }
 
 fn put_i32(rt: &impl Print, x: i32) -> io::Result<()> {
-    put_pattern(rt, wide32(number::pattern_i32(x)), 2147483648)
+    put_pattern(rt, wide32(x.pattern()), 2147483648)
 }
 
 fn put_i64(rt: &impl Print, x: i64) -> io::Result<()> {
-    put_pattern(rt, number::pattern_i64(x), 9223372036854775808)
+    put_pattern(rt, x.pattern(), 9223372036854775808)
 }
 
 fn end_line(rt: &impl Print) -> io::Result<()> {
@@ -71,7 +69,7 @@ fn put_i32s(rt: &impl Print, s: &[u8], n: usize) -> io::Result<()>
     requires { n + n + n + n ≤ length s.now }
 {
     for i in 0..n {
-        put_i32(rt, number::read_i32(s, i + i + i + i))?;
+        put_i32(rt, i32::read(s, i + i + i + i))?;
     }
     end_line(rt)
 }
@@ -101,10 +99,10 @@ fn byte_strings(rt: &impl Print) -> io::Result<()> {
     let mut room = [0u8; 16];
     let mut data = [0u8; 4];
     rt.write_all(b"K5: ")?;
-    put_extended(rt, utils::try_offsets_i32(&offsets, 4, 2, 10))?;
-    utils::extend_offsets_i32(&mut room, 0, &offsets, 4, 2, 10);
+    put_extended(rt, utils::try_offsets::<u32>(&offsets, 4, 2, 10))?;
+    utils::extend_offsets::<u32>(&mut room, 0, &offsets, 4, 2, 10);
     number::copy::copy_bytes(&mut data, 0, b"vanstop", 3, 4);
-    utils::repeat_offset_i32(&mut room, 8, 2, 14);
+    utils::repeat_offset::<u32>(&mut room, 8, 2, 14);
     rt.write_all(b"K5, K6: ")?;
     put_i32s(rt, &room, 4)?;
     rt.write_all(&data)?;
@@ -117,9 +115,9 @@ fn large_byte_strings(rt: &impl Print) -> io::Result<()> {
         b"\x03\x00\x00\x00\x00\x00\x00\x00\x03\x00\x00\x00\x00\x00\x00\x00\x07\x00\x00\x00\x00\x00\x00\x00";
     let mut room = [0u8; 32];
     rt.write_all(b"K5 large: ")?;
-    put_extended(rt, utils::try_offsets_i64(offsets, 0, 2, 10))?;
-    utils::extend_offsets_i64(&mut room, 0, offsets, 0, 2, 10);
-    utils::repeat_offset_i64(&mut room, 16, 2, 14);
+    put_extended(rt, utils::try_offsets::<u64>(offsets, 0, 2, 10))?;
+    utils::extend_offsets::<u64>(&mut room, 0, offsets, 0, 2, 10);
+    utils::repeat_offset::<u64>(&mut room, 16, 2, 14);
     rt.write_all(b"K5, K6 large: ")?;
     put_bytes(rt, &room)
 }
@@ -129,13 +127,13 @@ fn largest(rt: &impl Print) -> io::Result<()> {
     let offsets = [4u8, 0, 0, 0, 9, 0, 0, 0, 14, 0, 0, 0];
     let falling = [4u8, 0, 0, 0, 3, 0, 0, 0];
     rt.write_all(b"largest: ")?;
-    put_extended(rt, utils::try_offsets_i32(&offsets, 0, 1, 2147483642))?;
+    put_extended(rt, utils::try_offsets::<u32>(&offsets, 0, 1, 2147483642))?;
     rt.write_all(b"one past: ")?;
-    put_extended(rt, utils::try_offsets_i32(&offsets, 0, 1, 2147483643))?;
+    put_extended(rt, utils::try_offsets::<u32>(&offsets, 0, 1, 2147483643))?;
     rt.write_all(b"second row: ")?;
-    put_extended(rt, utils::try_offsets_i32(&offsets, 0, 2, 2147483642))?;
+    put_extended(rt, utils::try_offsets::<u32>(&offsets, 0, 2, 2147483642))?;
     rt.write_all(b"falling: ")?;
-    put_extended(rt, utils::try_offsets_i32(&falling, 0, 1, 0))
+    put_extended(rt, utils::try_offsets::<u32>(&falling, 0, 1, 0))
 }
 
 fn largest_large(rt: &impl Print) -> io::Result<()> {
@@ -144,29 +142,29 @@ fn largest_large(rt: &impl Print) -> io::Result<()> {
     rt.write_all(b"largest, large: ")?;
     put_extended(
         rt,
-        utils::try_offsets_i64(offsets, 0, 1, 9223372036854775802),
+        utils::try_offsets::<u64>(offsets, 0, 1, 9223372036854775802),
     )?;
     rt.write_all(b"one past, large: ")?;
     put_extended(
         rt,
-        utils::try_offsets_i64(offsets, 0, 1, 9223372036854775803),
+        utils::try_offsets::<u64>(offsets, 0, 1, 9223372036854775803),
     )?;
     rt.write_all(b"needed is cut: ")?;
-    put_extended(rt, utils::try_offsets_i64(above, 0, 1, 1))
+    put_extended(rt, utils::try_offsets::<u64>(above, 0, 1, 1))
 }
 
 // K7 and K10.
 fn keys(rt: &impl Print) -> io::Result<()> {
     let body = [55u8, 250, 100, 0];
     let mut room = [0u8; 4];
-    utils::primitive::extend_with_offset_u8(&mut room, 0, &body, 0, 2, 200);
-    utils::primitive::extend_with_offset_u8(&mut room, 2, &body, 2, 1, 100);
+    utils::primitive::extend_with_offset::<u8>(&mut room, 0, &body, 0, 2, 200);
+    utils::primitive::extend_with_offset::<u8>(&mut room, 2, &body, 2, 1, 100);
     rt.write_all(b"K7, K10: ")?;
     put_bytes(rt, &room)?;
     rt.write_all(b"K10, signed: ")?;
-    put_i8(rt, number::read_i8(&room, 2))?;
-    utils::primitive::extend_with_offset_i8(&mut room, 2, &body, 2, 1, 100);
-    put_i8(rt, number::read_i8(&room, 2))?;
+    put_i8(rt, i8::read(&room, 2))?;
+    utils::primitive::extend_with_offset_signed::<i8>(&mut room, 2, &body, 2, 1, 100);
+    put_i8(rt, i8::read(&room, 2))?;
     end_line(rt)
 }
 
@@ -174,24 +172,24 @@ fn keys(rt: &impl Print) -> io::Result<()> {
 fn signed_keys(rt: &impl Print) -> io::Result<()> {
     let body = b"\x00\x80\xff\xff\xff\x7f\xfb\xff\xff\xff\xff\xff\xff\xff";
     let mut room = [0u8; 14];
-    utils::primitive::extend_with_offset_i16(&mut room, 0, body, 0, 1, 65535);
-    utils::primitive::extend_with_offset_i32(&mut room, 2, body, 2, 1, 1);
-    utils::primitive::extend_with_offset_i64(&mut room, 6, body, 6, 1, 7);
+    utils::primitive::extend_with_offset_signed::<i16>(&mut room, 0, body, 0, 1, 65535);
+    utils::primitive::extend_with_offset_signed::<i32>(&mut room, 2, body, 2, 1, 1);
+    utils::primitive::extend_with_offset_signed::<i64>(&mut room, 6, body, 6, 1, 7);
     rt.write_all(b"signed keys: ")?;
-    put_i16(rt, number::read_i16(&room, 0))?;
-    put_i32(rt, number::read_i32(&room, 2))?;
-    put_i64(rt, number::read_i64(&room, 6))?;
+    put_i16(rt, i16::read(&room, 0))?;
+    put_i32(rt, i32::read(&room, 2))?;
+    put_i64(rt, i64::read(&room, 6))?;
     end_line(rt)
 }
 
 fn wide_keys(rt: &impl Print) -> io::Result<()> {
     let body = [255u8, 255, 1, 0, 255, 255, 255, 255];
     let mut room = [0u8; 8];
-    utils::primitive::extend_with_offset_u16(&mut room, 0, &body, 0, 2, 2);
-    utils::primitive::extend_with_offset_u32(&mut room, 4, &body, 4, 1, 3);
+    utils::primitive::extend_with_offset::<u16>(&mut room, 0, &body, 0, 2, 2);
+    utils::primitive::extend_with_offset::<u32>(&mut room, 4, &body, 4, 1, 3);
     rt.write_all(b"wide keys: ")?;
     put_bytes(rt, &room)?;
-    utils::primitive::extend_with_offset_u64(&mut room, 0, &body, 0, 1, 1);
+    utils::primitive::extend_with_offset::<u64>(&mut room, 0, &body, 0, 1, 1);
     put_bytes(rt, &room)
 }
 
@@ -216,13 +214,13 @@ fn views(rt: &impl Print) -> io::Result<()> {
 fn signed(rt: &impl Print) -> io::Result<()> {
     let s = b"\x7f\x80\xff\xff\x00\x00\x00\x80\xff\xff\xff\xff\xff\xff\xff\x7f";
     rt.write_all(b"signed: ")?;
-    put_i8(rt, number::read_i8(s, 0))?;
-    put_i8(rt, number::read_i8(s, 1))?;
-    put_i16(rt, number::read_i16(s, 0))?;
-    put_i16(rt, number::read_i16(s, 2))?;
-    put_i32(rt, number::read_i32(s, 4))?;
-    put_i64(rt, number::read_i64(s, 0))?;
-    put_i64(rt, number::read_i64(s, 8))?;
+    put_i8(rt, i8::read(s, 0))?;
+    put_i8(rt, i8::read(s, 1))?;
+    put_i16(rt, i16::read(s, 0))?;
+    put_i16(rt, i16::read(s, 2))?;
+    put_i32(rt, i32::read(s, 4))?;
+    put_i64(rt, i64::read(s, 0))?;
+    put_i64(rt, i64::read(s, 8))?;
     end_line(rt)
 }
 

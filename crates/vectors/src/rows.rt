@@ -1,6 +1,7 @@
 // Vectors of rows: leaves at each format, first of a column with an offset, NaNs and zeros by their bits, views, and runs (K1).
 ghost use Rattle.std.specs.Prelude.{◌+◌, ◌≤◌, length};
 
+use number::Signed;
 use slot_reader::leaf_row::Leaf;
 use slot_reader::run::{ColumnRow, RowRun};
 use slot_reader::view::Place;
@@ -22,7 +23,7 @@ fn put(rt: &impl Print, x: u64) -> io::Result<()> {
 
 // A whole number by its pattern of 64 bits.
 fn put_signed(rt: &impl Print, z: i64) -> io::Result<()> {
-    let p = number::pattern_i64(z);
+    let p = z.pattern();
     if p < 0x8000_0000_0000_0000 {
         put(rt, p)?;
     } else {
