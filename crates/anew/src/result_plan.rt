@@ -50,10 +50,8 @@ fn write_nulls(
     requires { (n ≤ 32) × (first < 2 ^ 32) × Comes (tables lengths.now places.now body.now) first n from.now }
     ensures { words.new ≡ with_nulls (keeps_from (tables lengths.now places.now body.now) first from.now) n words.old }
 {
-    let mut i = 0;
-    while i < n {
+    for i in 0..n {
         words[8 * i + 5] = null_word(lengths, places, body, first, from, n, i);
-        i += 1;
     }
 }
 
@@ -76,10 +74,8 @@ fn write_dictionaries(joined: bool, n: usize, words: &mut [u64; NODE_WORDS])
     requires { n ≤ 32 }
     ensures { words.new ≡ with_dictionaries joined n words.old }
 {
-    let mut i = 0;
-    while i < n {
+    for i in 0..n {
         words[8 * i + 7] = dictionary_word(joined, words, i);
-        i += 1;
     }
 }
 
@@ -88,10 +84,8 @@ fn write_parts(n: usize, words: &mut [u64; NODE_WORDS])
     requires { n ≤ 32 }
     ensures { words.new ≡ with_parts n words.old }
 {
-    let mut i = 0;
-    while i < n {
+    for i in 0..n {
         words[8 * i + 6] = plan::parts::part_word(words, i);
-        i += 1;
     }
 }
 
@@ -119,28 +113,12 @@ pub fn words_anew(
     write_parts(n, words);
 }
 
-// Zeros.
-pub fn clear(t: &mut [u64])
-    ensures { t.new ≡ replicate (length t.old) 0 }
-{
-    let n = t.len();
-    let mut i = 0;
-    while i < n {
-        t[i] = 0;
-        i += 1;
-    }
-}
-
 // The words of the nodes over zeros.
 fn put_words(words: &[u64; NODE_WORDS], plan: &mut [u64])
     requires { plan.old ≡ replicate 872 0 }
     ensures { plan.new ≡ with_tree words.now }
 {
-    let mut q = 0;
-    while q < NODE_WORDS {
-        plan[q] = words[q];
-        q += 1;
-    }
+    plan[..NODE_WORDS].copy_from_slice(words);
 }
 
 // The plan by the words of its n nodes. From node `kept` on all are kept, where it is not 0.
@@ -148,7 +126,7 @@ pub fn plan_by(words: &[u64; NODE_WORDS], n: usize, kept: u64, plan: &mut [u64])
     requires { (n ≤ 32) × (length plan.old ≡ 872) }
     ensures { plan.new ≡ plan_by words.now n kept }
 {
-    clear(plan);
+    plan.fill(0);
     put_words(words, plan);
     plan[plan_words::SOURCE_COUNT] = 1;
     plan[plan_words::NODE_COUNT] = n as u64;

@@ -44,14 +44,12 @@ fn run_len(ranks: &[u64; 513], j: usize, count: u64) -> u64
     requires { (j ≤ count) × (count ≤ 512) }
     ensures { (result ≤ count - j) × ((x : Join) (base : ℕ) → ((i : ℕ) → i ≤ count → get_or (was ranks) i 0 ≡ rank (keys_of x) (base + i)) → result ≡ run_of x (base + j) (count - j)) }
 {
-    let mut k: usize = 0;
-    while ((j + k) as u64) < count {
+    for k in 0..count as usize - j {
         if ranks[j + k + 1] <= ranks[j + k] {
             return k as u64;
         }
-        k += 1;
     }
-    k as u64
+    count - j as u64
 }
 
 // k entries from entry e on, by one order.

@@ -19,14 +19,12 @@ fn write_each(
     ensures { room.new ≡ splice to (chosen (was body) from w (risen (was ranks)) count) room.old }
 {
     let mut o = to;
-    let mut j: usize = 0;
-    while j < count {
+    for j in 0..count {
         if ranks[j] < ranks[j + 1] {
             let v = crate::used_entries::key_at(body, w, from, j as u64);
             crate::used_entries::write_number(room, o, w, v);
             o += w as usize;
         }
-        j += 1;
     }
 }
 

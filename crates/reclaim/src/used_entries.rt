@@ -5,6 +5,8 @@ ghost use Rattle.clauses.specs.Slices.{was, left};
 ghost use Rattle.number.specs.Number.{encode, entry, splice};
 ghost use Rattle.reclaim.specs.used_entries.Keys.{keys, KeyWidth, Within, slot_valid, used, rank, new_keys, Renumbers, slot_in, Head};
 
+use number::Unsigned;
+
 // How many entries a block has at most.
 const BLOCK: u64 = 512;
 
@@ -16,10 +18,10 @@ pub fn key_at(body: &[u8], w: u64, at: u64, k: u64) -> u64
 {
     let from = at + w * k;
     match w {
-        1 => number::read_u8(body, from as usize) as u64,
-        2 => number::read_u16(body, from as usize) as u64,
-        4 => number::read_u32(body, from as usize) as u64,
-        _ => number::read_u64(body, from as usize),
+        1 => u8::read(body, from as usize) as u64,
+        2 => u16::read(body, from as usize) as u64,
+        4 => u32::read(body, from as usize) as u64,
+        _ => u64::read(body, from as usize),
     }
 }
 
@@ -80,11 +82,9 @@ fn marks_of(
     ensures { (j : ℕ) → j < count → get_or result j 0 ≡ cond (used (keys (was body) w at masked mask off n) (base + j)) 1 0 }
 {
     let mut marks = [0u64; 513];
-    let mut r: u64 = 0;
-    while r < n {
+    for r in 0..n {
         let s = block_slot(body, w, at, masked, mask, off, n, base, count, r);
         marks[s] = 1;
-        r += 1;
     }
     marks
 }
@@ -108,10 +108,8 @@ pub fn ranks_of(
     let marks = marks_of(body, w, at, masked, mask, off, n, base, count);
     let mut ranks = [0u64; 513];
     ranks[0] = start;
-    let mut j: usize = 0;
-    while (j as u64) < count {
+    for j in 0..count as usize {
         ranks[j + 1] = ranks[j] + marks[j];
-        j += 1;
     }
     ranks
 }
@@ -125,10 +123,10 @@ pub fn write_number(room: &mut [u8], at: usize, w: u64, v: u64)
     ensures { room.new ≡ splice at (encode w v) room.old }
 {
     match w {
-        1 => number::write_u8(room, at, (v % 256) as u8),
-        2 => number::write_u16(room, at, (v % 65536) as u16),
-        4 => number::write_u32(room, at, (v % 4294967296) as u32),
-        _ => number::write_u64(room, at, v),
+        1 => u8::truncate(v).write(room, at),
+        2 => u16::truncate(v).write(room, at),
+        4 => u32::truncate(v).write(room, at),
+        _ => v.write(room, at),
     }
 }
 
@@ -162,11 +160,9 @@ fn write_block(
     requires by_index { (j : ℕ) → j < count → get_or ranks.now j 0 ≡ rank (keys body.now w at masked mask off n) (base + j) }
     ensures { Renumbers (keys (was body) w at masked mask off n) room to base (base + count) }
 {
-    let mut r: u64 = 0;
-    while r < n {
+    for r in 0..n {
         let s = block_slot(body, w, at, masked, mask, off, n, base, count, r);
         put_rank(room, to, w, r, ranks, s);
-        r += 1;
     }
 }
 

@@ -31,8 +31,7 @@ fn find_child(tree: &[u64], i: usize, id: u64) -> Child
 {
     let end = end_word(tree, i);
     let mut node = i + 1;
-    let mut c: usize = 0;
-    while c < 16 {
+    for c in 0..16usize {
         if end <= node {
             return Child::Missing;
         }
@@ -40,7 +39,6 @@ fn find_child(tree: &[u64], i: usize, id: u64) -> Child
             return Child::Node(node);
         }
         node = node_words::word(tree, node, 2) as usize;
-        c += 1;
     }
     Child::Missing
 }

@@ -6,7 +6,7 @@ use Rattle.anew.proofs.result_plan.Laws.{tree_long, one_long, two_long, three_lo
 use Rattle.anew.proofs.result_plan.plan_by.Goals as goal
 
 pub put_words-requires : goal.put_words-requires
-put_words-requires c = c.clear.ensures ∙ ap (λ n. replicate n 0) c.requires.1
+put_words-requires c = c.fill.ensures.after (λ y e. e) ∙ ap (λ n. replicate n 0) c.requires.1
 
 pub bounds-plan-864 : goal.bounds-plan-864
 bounds-plan-864 c = omega (arith, tree_long c.args.words.now c.put_words.ensures)

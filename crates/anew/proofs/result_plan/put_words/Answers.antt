@@ -1,46 +1,29 @@
--- `result_plan::put_words` meets its contract. The invariant: the first q words are written. Assumes nothing.
-use mathlib.Core.Path.{refl, sym, ap, ◌∙◌}
-use Prim.Native.Nat.{◌+◌, ◌-◌}
+-- `result_plan::put_words` meets its contract. Assumes nothing.
+use mathlib.Core.Path.{◌≡◌, refl, sym, ap, subst, ◌∙◌}
+use mathlib.Core.List.{List, [], ◌∷◌, ◌++◌}
+use Prim.Native.Nat.{ℕ, zero, suc, ◌≤◌}
 use native.Mathlib.Omega.{arith}
-use lib.ListN.{length, get_or, replicate}
-use Rattle.plan.specs.Plan.{with_tree}
-use Rattle.plan.proofs.Laws.{filled_none, filled_more, filled_all}
-use Rattle.plan.proofs.Words.{filled_length}
+use lib.ListN.{length, get_or, set, take, drop, replicate}
+use Rattle.std.proofs.Math.Seq.{take-length, take-suc, drop-cons, set-append_seam}
+use Rattle.std.proofs.Common.{append_assoc, ap₂}
+use Rattle.std.proofs.lemmas.List.{length-take-le}
+use Rattle.plan.specs.Plan.{filled, with_tree}
 use Rattle.anew.proofs.result_plan.put_words.Goals as goal
 
-pub loop-q-init : goal.loop-q-init
-loop-q-init c = (omega arith, c.requires ∙ filled_none (λ k. k) (λ s k. get_or c.args.words.now k 0) (replicate 872 0), ap length c.requires)
-
-pub offset_bounds-words-q : goal.offset_bounds-words-q
-offset_bounds-words-q c = omega arith
-
-pub bounds-words-q : goal.bounds-words-q
-bounds-words-q c = omega arith
-
-pub offset_bounds-plan-q : goal.offset_bounds-plan-q
-offset_bounds-plan-q c = omega arith
-
-pub bounds-plan-q : goal.bounds-plan-q
-bounds-plan-q c = omega (arith, c.loop-q.invariant.2)
-
-pub overflow_add-q : goal.overflow_add-q
-overflow_add-q c = omega arith
-
-pub loop-q-smaller : goal.loop-q-smaller
-loop-q-smaller c = omega arith
-
-pub loop-q-preserved : goal.loop-q-preserved
-loop-q-preserved c =
-    let l = c.loop-q in
-    let words = c.args.words.now in
-    let e = filled_more (λ k. k) (λ s k. get_or words k 0) l.q (replicate 872 0) l.plan l.invariant.1 refl in
-    (omega arith, e, ap length e ∙ filled_length (λ k. k) (λ s k. get_or words k 0) (l.q + 1) (replicate 872 0))
-
-pub shape_of-plan : goal.shape_of-plan
-shape_of-plan c = c.loop-q.invariant.2 ∙ sym (ap length c.requires)
+-- the first n words one by one are the first n at once
+copied : (tree plan : List ℕ) (n : ℕ) → n ≤ length tree → n ≤ length plan → take n tree ++ drop n plan ≡ filled (λ q. q) (λ words q. get_or tree q 0) n plan
+unfolding filled
+copied tree plan zero h k = refl
+copied tree plan (suc n) h k =
+    let one : take (suc n) tree ≡ take n tree ++ (get_or tree n 0 ∷ []) = take-suc tree n 0 (omega arith) in
+    let next : drop n plan ≡ get_or plan n 0 ∷ drop (suc n) plan = drop-cons plan n 0 (omega arith) in
+    let seam = set-append_seam (take n tree) (get_or plan n 0) (drop (suc n) plan) (get_or tree n 0) in
+    let e : length (take n tree) ≡ n = length-take-le n tree (omega arith) in
+    rw (one, append_assoc, ← copied tree plan n (omega arith) (omega arith), next) (sym (subst (λ (k : ℕ). set (take n tree ++ (get_or plan n 0 ∷ drop (suc n) plan)) k (get_or tree n 0) ≡ take n tree ++ (get_or tree n 0 ∷ drop (suc n) plan)) e seam))
 
 pub returns : goal.returns
 unfolding with_tree
 returns c =
-    let l = c.loop-q in
-    filled_all (λ k. k) (λ s k. get_or c.args.words.now k 0) l.q 256 (replicate 872 0) l.plan (omega arith) l.invariant.1
+    let tree = c.args.words.now in
+    let whole : take 256 tree ≡ tree = subst (λ (k : ℕ). take k tree ≡ tree) c.told-words (take-length tree) in
+    ap₂ (λ (w p : List ℕ). w ++ drop 256 p) (c.copy_from_slice.ensures.after ∙ sym whole) c.requires ∙ copied tree (replicate 872 0) 256 (omega arith) (omega arith)

@@ -8,7 +8,7 @@ use Rattle.anew.proofs.result_plan.write_dictionaries.Goals as goal
 pub loop-i-init : goal.loop-i-init
 loop-i-init c =
     let z = c.args in
-    (omega arith, filled_none (λ k. 8 * k + 7) (dictionary_word z.joined) z.words.now)
+    filled_none (λ k. 8 * k + 7) (dictionary_word z.joined) z.words.now
 
 pub dictionary_word-requires : goal.dictionary_word-requires
 dictionary_word-requires c = omega arith
@@ -25,21 +25,15 @@ offset_bounds-words-i c = omega arith
 pub bounds-words-i : goal.bounds-words-i
 bounds-words-i c = omega arith
 
-pub overflow_add-i : goal.overflow_add-i
-overflow_add-i c = omega arith
-
-pub loop-i-smaller : goal.loop-i-smaller
-loop-i-smaller c = omega arith
-
 pub loop-i-preserved : goal.loop-i-preserved
 loop-i-preserved c =
     let z = c.args in
     let l = c.loop-i in
-    (omega arith, filled_more (λ k. 8 * k + 7) (dictionary_word z.joined) l.i z.words.now l.words l.invariant.1 c.dictionary_word.ensures)
+    filled_more (λ k. 8 * k + 7) (dictionary_word z.joined) l.i z.words.now l.words l.invariant c.dictionary_word.ensures
 
 pub returns : goal.returns
 unfolding with_dictionaries
 returns c =
     let z = c.args in
     let l = c.loop-i in
-    filled_all (λ k. 8 * k + 7) (dictionary_word z.joined) l.i z.n z.words.now l.words (omega arith) l.invariant.1
+    filled_all (λ k. 8 * k + 7) (dictionary_word z.joined) l.i z.n z.words.now l.words (omega arith) l.invariant

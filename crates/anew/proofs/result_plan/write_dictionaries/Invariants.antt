@@ -5,7 +5,4 @@ use Rattle.anew.specs.ResultPlan.{dictionary_word}
 use Rattle.anew.proofs.result_plan.write_dictionaries.Given as goal
 
 abbrev pub invariant-loop-i : goal.invariant-loop-i
-invariant-loop-i l = (l.i ≤ l.n) × (l.words ≡ filled (λ k. 8 * k + 7) (dictionary_word l.joined) l.i l.initial.words)
-
-abbrev pub decreases-loop-i : goal.decreases-loop-i
-decreases-loop-i l = l.n - l.i
+invariant-loop-i l = (l.words ≡ filled (λ k. 8 * k + 7) (dictionary_word l.joined) l.i l.initial.words)

@@ -10,7 +10,7 @@ use Rattle.anew.proofs.result_plan.write_nulls.Goals as goal
 pub loop-i-init : goal.loop-i-init
 loop-i-init c =
     let z = c.args in
-    (omega arith, filled_none (λ k. 8 * k + 5) (λ s k. flag (keeps_from (tables z.lengths.now z.places.now z.body.now) z.first z.from.now k)) z.words.now)
+    filled_none (λ k. 8 * k + 5) (λ s k. flag (keeps_from (tables z.lengths.now z.places.now z.body.now) z.first z.from.now k)) z.words.now
 
 pub null_word-requires : goal.null_word-requires
 null_word-requires c = let p = c.requires in (omega arith, omega arith, omega arith, p.2)
@@ -27,21 +27,15 @@ offset_bounds-words-i c = omega arith
 pub bounds-words-i : goal.bounds-words-i
 bounds-words-i c = omega arith
 
-pub overflow_add-i : goal.overflow_add-i
-overflow_add-i c = omega arith
-
-pub loop-i-smaller : goal.loop-i-smaller
-loop-i-smaller c = omega arith
-
 pub loop-i-preserved : goal.loop-i-preserved
 loop-i-preserved c =
     let z = c.args in
     let l = c.loop-i in
-    (omega arith, filled_more (λ k. 8 * k + 5) (λ s k. flag (keeps_from (tables z.lengths.now z.places.now z.body.now) z.first z.from.now k)) l.i z.words.now l.words l.invariant.1 c.null_word.ensures)
+    filled_more (λ k. 8 * k + 5) (λ s k. flag (keeps_from (tables z.lengths.now z.places.now z.body.now) z.first z.from.now k)) l.i z.words.now l.words l.invariant c.null_word.ensures
 
 pub returns : goal.returns
 unfolding with_nulls
 returns c =
     let z = c.args in
     let l = c.loop-i in
-    filled_all (λ k. 8 * k + 5) (λ s k. flag (keeps_from (tables z.lengths.now z.places.now z.body.now) z.first z.from.now k)) l.i z.n z.words.now l.words (omega arith) l.invariant.1
+    filled_all (λ k. 8 * k + 5) (λ s k. flag (keeps_from (tables z.lengths.now z.places.now z.body.now) z.first z.from.now k)) l.i z.n z.words.now l.words (omega arith) l.invariant

@@ -6,7 +6,4 @@ use Rattle.anew.specs.ResultPlan.{keeps_from}
 use Rattle.anew.proofs.result_plan.write_nulls.Given as goal
 
 abbrev pub invariant-loop-i : goal.invariant-loop-i
-invariant-loop-i l = (l.i ≤ l.n) × (l.words ≡ filled (λ k. 8 * k + 5) (λ s k. flag (keeps_from (tables l.lengths l.places l.body) l.first l.from k)) l.i l.initial.words)
-
-abbrev pub decreases-loop-i : goal.decreases-loop-i
-decreases-loop-i l = l.n - l.i
+invariant-loop-i l = (l.words ≡ filled (λ k. 8 * k + 5) (λ s k. flag (keeps_from (tables l.lengths l.places l.body) l.first l.from k)) l.i l.initial.words)

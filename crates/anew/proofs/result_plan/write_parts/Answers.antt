@@ -7,7 +7,7 @@ use Rattle.plan.proofs.Laws.{filled_none, filled_more, filled_all}
 use Rattle.anew.proofs.result_plan.write_parts.Goals as goal
 
 pub loop-i-init : goal.loop-i-init
-loop-i-init c = (omega arith, filled_none (λ k. 8 * k + 6) part_word c.args.words.now)
+loop-i-init c = filled_none (λ k. 8 * k + 6) part_word c.args.words.now
 
 pub part_word-requires : goal.part_word-requires
 part_word-requires c = omega arith
@@ -24,19 +24,13 @@ offset_bounds-words-i c = omega arith
 pub bounds-words-i : goal.bounds-words-i
 bounds-words-i c = omega arith
 
-pub overflow_add-i : goal.overflow_add-i
-overflow_add-i c = omega arith
-
-pub loop-i-smaller : goal.loop-i-smaller
-loop-i-smaller c = omega arith
-
 pub loop-i-preserved : goal.loop-i-preserved
 loop-i-preserved c =
     let l = c.loop-i in
-    (omega arith, filled_more (λ k. 8 * k + 6) part_word l.i c.args.words.now l.words l.invariant.1 c.part_word.ensures)
+    filled_more (λ k. 8 * k + 6) part_word l.i c.args.words.now l.words l.invariant c.part_word.ensures
 
 pub returns : goal.returns
 unfolding with_parts
 returns c =
     let l = c.loop-i in
-    filled_all (λ k. 8 * k + 6) part_word l.i c.args.n c.args.words.now l.words (omega arith) l.invariant.1
+    filled_all (λ k. 8 * k + 6) part_word l.i c.args.n c.args.words.now l.words (omega arith) l.invariant

@@ -5,7 +5,4 @@ use Rattle.plan.specs.Plan.{filled}
 use Rattle.anew.proofs.result_plan.write_parts.Given as goal
 
 abbrev pub invariant-loop-i : goal.invariant-loop-i
-invariant-loop-i l = (l.i ≤ l.n) × (l.words ≡ filled (λ k. 8 * k + 6) part_word l.i l.initial.words)
-
-abbrev pub decreases-loop-i : goal.decreases-loop-i
-decreases-loop-i l = l.n - l.i
+invariant-loop-i l = (l.words ≡ filled (λ k. 8 * k + 6) part_word l.i l.initial.words)

@@ -11,7 +11,7 @@ use Rattle.reclaim.proofs.entry_copies.run_len.Goals as goal
 pub loop-k-init : goal.loop-k-init
 loop-k-init c =
     let a = c.args in
-    (omega arith, λ x b h. run_starts x (b + a.j) (a.count - a.j) _ _ 0 refl (add-zero (b + a.j)) (ap (λ z. a.count - z) (add-zero a.j)))
+    λ x b h. run_starts x (b + a.j) (a.count - a.j) _ _ 0 refl (add-zero (b + a.j)) (ap (λ z. a.count - z) (add-zero a.j))
 
 pub returns-then-ranks-j : goal.returns-then-ranks-j
 returns-then-ranks-j c =
@@ -22,23 +22,21 @@ returns-then-ranks-j c =
           let p : b + (a.j + l.k) ≡ b + a.j + l.k = omega arith in
           let q : b + (a.j + l.k + 1) ≡ b + a.j + l.k + 1 = omega arith in
           let e = run_ends_lem x (b + a.j + l.k) (a.count - (a.j + l.k)) _ _ (omega arith) (h (a.j + l.k) (omega arith) ∙ ap (rank (keys_of x)) p) (h (a.j + l.k + 1) (omega arith) ∙ ap (rank (keys_of x)) q) c.if-ranks-j.true in
-          omega (arith, l.invariant.1 x b h, e),
+          omega (arith, l.invariant x b h, e),
     )
 
 pub loop-k-preserved : goal.loop-k-preserved
 loop-k-preserved c =
     let a = c.args in
-    let l = c.loop-k in (
-      omega arith,
+    let l = c.loop-k in
       λ x b h.
           let p : b + (a.j + l.k) ≡ b + a.j + l.k = omega arith in
           let q : b + (a.j + l.k + 1) ≡ b + a.j + l.k + 1 = omega arith in
           run_goes x (b + a.j + l.k) (a.count - (a.j + l.k)) _ _ l.k (l.k + 1) _ _ (omega arith) (omega arith) (omega arith) refl (h (a.j + l.k) (omega arith) ∙ ap (rank (keys_of x)) p) (h (a.j + l.k + 1) (omega arith) ∙ ap (rank (keys_of x)) q) c.if-ranks-j.false
-          ∙ l.invariant.1 x b h,
-    )
+          ∙ l.invariant x b h
 
 pub returns : goal.returns
 returns c =
     let a = c.args in
     let l = c.loop-k in
-    (omega arith, λ x b h. omega (arith, l.invariant.1 x b h, run_none x (b + a.j + l.k) (a.count - (a.j + l.k)) (omega arith)))
+    (omega arith, λ x b h. omega (arith, l.invariant x b h, run_none x (b + a.j + l.k) (a.count - (a.j + l.k)) (omega arith)))

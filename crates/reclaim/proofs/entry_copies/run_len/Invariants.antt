@@ -8,8 +8,4 @@ use Rattle.reclaim.proofs.entry_copies.run_len.Given as goal
 
 abbrev pub invariant-loop-k : goal.invariant-loop-k
 invariant-loop-k l =
-    (l.j + l.k ≤ l.count)
-    × ((x : Join) (base : ℕ) → ((i : ℕ) → i ≤ l.count → get_or l.ranks i 0 ≡ rank (keys_of x) (base + i)) → l.k + run_of x (base + l.j + l.k) (l.count - (l.j + l.k)) ≡ run_of x (base + l.j) (l.count - l.j))
-
-abbrev pub decreases-loop-k : goal.decreases-loop-k
-decreases-loop-k l = l.count - l.k
+    (x : Join) (base : ℕ) → ((i : ℕ) → i ≤ l.count → get_or l.ranks i 0 ≡ rank (keys_of x) (base + i)) → l.k + run_of x (base + l.j + l.k) (l.count - (l.j + l.k)) ≡ run_of x (base + l.j) (l.count - l.j)

@@ -40,7 +40,7 @@ pub loop-j-init : goal.loop-j-init
 loop-j-init c =
     let a = c.args in
     let z : length (chosen a.body.now a.from a.w (risen a.ranks.now) 0) ≡ 0 = ap length (chosen_none a.body.now a.from a.w (risen a.ranks.now)) in
-    (omega arith, refl, omega arith, sym (ap (λ b. splice a.to b a.room.now) (chosen_none a.body.now a.from a.w (risen a.ranks.now)) ∙ splice_nil a.to a.room.now))
+    (omega arith, sym (ap (λ b. splice a.to b a.room.now) (chosen_none a.body.now a.from a.w (risen a.ranks.now)) ∙ splice_nil a.to a.room.now))
 
 pub key_at-v-requires : goal.key_at-v-requires
 key_at-v-requires c = record { key_width = c.requires.0; k_in_bounds = omega (arith, c.requires.2, mul-le-mul_left {m = c.loop-j.j + 1} {n = c.args.count} c.args.w (omega arith)) }
@@ -50,14 +50,14 @@ write_number-requires c =
     let a = c.args in
     let l = c.loop-j in
     let f = room_for a.body.now a.from a.w a.ranks.now a.count l.j a.to l.room a.room.now (omega arith) c.requires.2 c.requires.3 (lt-ltb _ _ c.if-ranks-j.true) in
-    record { w_in_bounds = omega (arith, f, l.invariant.1, l.invariant.2); key_width = c.requires.0 }
+    record { w_in_bounds = omega (arith, f, l.invariant.0); key_width = c.requires.0 }
 
 pub overflow_add-o : goal.overflow_add-o
 overflow_add-o c =
     let a = c.args in
     let l = c.loop-j in
     let f = room_for a.body.now a.from a.w a.ranks.now a.count l.j a.to l.room a.room.now (omega arith) c.requires.2 c.requires.3 (lt-ltb _ _ c.if-ranks-j.true) in
-    omega (arith, f, l.invariant.2)
+    omega (arith, f, l.invariant.0)
 
 pub loop-j-preserved : goal.loop-j-preserved
 loop-j-preserved c =
@@ -65,11 +65,11 @@ loop-j-preserved c =
     let l = c.loop-j in
     ⊎_elim
     (λ q.
-    let f = step_yes a.body.now a.from a.w a.ranks.now a.count l.j a.to l.room a.room.now (omega arith) c.requires.2 c.requires.3 (λ i. (c.shared_slice_known-1.given i).fits) (lt-ltb _ _ q.if-ranks-j.true) l.invariant.2 l.invariant.3 q.key_at-v.ensures q.write_number.ensures in
-    (omega arith, ap length q.room-is ∙ omega (arith, l.invariant.1), q.o-is ∙ f.0, q.room-is ∙ f.1))
+    let f = step_yes a.body.now a.from a.w a.ranks.now a.count l.j a.to l.room a.room.now (omega arith) c.requires.2 c.requires.3 (λ i. (c.shared_slice_known-1.given i).fits) (lt-ltb _ _ q.if-ranks-j.true) l.invariant.0 l.invariant.1 q.key_at-v.ensures q.write_number.ensures in
+    (q.o-is ∙ f.0, q.room-is ∙ f.1))
     (λ q.
-    let f = step_no a.body.now a.from a.w a.ranks.now a.count l.j a.to l.room a.room.now (omega arith) c.requires.2 c.requires.3 (le-ltb _ _ q.if-ranks-j.false) l.invariant.2 l.invariant.3 in
-    (omega arith, ap length q.room-is ∙ l.invariant.1, q.o-is ∙ f.0, q.room-is ∙ f.1))
+    let f = step_no a.body.now a.from a.w a.ranks.now a.count l.j a.to l.room a.room.now (omega arith) c.requires.2 c.requires.3 (le-ltb _ _ q.if-ranks-j.false) l.invariant.0 l.invariant.1 in
+    (q.o-is ∙ f.0, q.room-is ∙ f.1))
     c.if-ranks-j.branch-raw
 
 pub returns : goal.returns
@@ -77,4 +77,4 @@ returns c =
     let a = c.args in
     let l = c.loop-j in
     let z : l.j ≡ a.count = omega arith in
-    l.invariant.3 ∙ ap (λ n. splice a.to (chosen a.body.now a.from a.w (risen a.ranks.now) n) a.room.now) z
+    l.invariant.1 ∙ ap (λ n. splice a.to (chosen a.body.now a.from a.w (risen a.ranks.now) n) a.room.now) z

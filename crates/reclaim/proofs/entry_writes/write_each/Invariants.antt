@@ -7,7 +7,4 @@ use Rattle.reclaim.proofs.entry_writes.write_each.Given as goal
 
 abbrev pub invariant-loop-j : goal.invariant-loop-j
 invariant-loop-j l =
-    (l.j ≤ l.count) × (length l.room ≡ length l.initial.room) × (l.o ≡ l.to + length (chosen l.body l.from l.w (risen l.ranks) l.j)) × (l.room ≡ splice l.to (chosen l.body l.from l.w (risen l.ranks) l.j) l.initial.room)
-
-abbrev pub decreases-loop-j : goal.decreases-loop-j
-decreases-loop-j l = l.count - l.j
+    (l.o ≡ l.to + length (chosen l.body l.from l.w (risen l.ranks) l.j)) × (l.room ≡ splice l.to (chosen l.body l.from l.w (risen l.ranks) l.j) l.initial.room)

@@ -12,7 +12,7 @@ use Rattle.reclaim.proofs.used_entries.Laws.{mark_step, marks_used}
 use Rattle.reclaim.proofs.used_entries.marks_of.Goals as goal
 
 pub loop-r-init : goal.loop-r-init
-loop-r-init c = (omega arith, refl, λ j l. get_d_replicate 513 j 0 0 (omega arith))
+loop-r-init c = (refl, λ j l. get_d_replicate 513 j 0 0 (omega arith))
 
 pub block_slot-s-requires : goal.block_slot-s-requires
 block_slot-s-requires c = (c.requires.0, omega arith, omega arith)
@@ -23,7 +23,7 @@ loop-r-preserved c =
     let x = keys a.body.now a.w a.at a.masked a.mask a.off a.n in
     let l = c.loop-r in
     let s = c.block_slot-s in
-    (omega arith, rw length-set l.invariant.1, λ j h. rw add-one (mark_step x a.base a.count l.r j s.result l.marks (omega arith) l.invariant.1 h s.ensures.0 s.ensures.1 (l.invariant.2 j h)))
+    (rw length-set l.invariant.0, λ j h. rw add-one (mark_step x a.base a.count l.r j s.result l.marks (omega arith) l.invariant.0 h s.ensures.0 s.ensures.1 (l.invariant.1 j h)))
 
 pub returns : goal.returns
 returns c =
@@ -31,4 +31,4 @@ returns c =
     let x = keys a.body.now a.w a.at a.masked a.mask a.off a.n in
     let l = c.loop-r in
     let e : l.r ≡ a.n = omega arith in
-    λ j h. l.invariant.2 j h ∙ ap (λ (z : ℕ). cond (some_below (names x (a.base + j)) z) 1 0) e ∙ marks_used x (a.base + j)
+    λ j h. l.invariant.1 j h ∙ ap (λ (z : ℕ). cond (some_below (names x (a.base + j)) z) 1 0) e ∙ marks_used x (a.base + j)

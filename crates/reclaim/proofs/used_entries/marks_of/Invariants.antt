@@ -8,7 +8,4 @@ use Rattle.reclaim.proofs.used_entries.marks_of.Given as goal
 
 abbrev pub invariant-loop-r : goal.invariant-loop-r
 invariant-loop-r l =
-    (l.r ≤ l.n) × (length l.marks ≡ 513) × ((j : ℕ) → j < l.count → get_or l.marks j 0 ≡ cond (some_below (names (keys l.body l.w l.at l.masked l.mask l.off l.n) (l.base + j)) l.r) 1 0)
-
-abbrev pub decreases-loop-r : goal.decreases-loop-r
-decreases-loop-r l = l.n - l.r
+    (length l.marks ≡ 513) × ((j : ℕ) → j < l.count → get_or l.marks j 0 ≡ cond (some_below (names (keys l.body l.w l.at l.masked l.mask l.off l.n) (l.base + j)) l.r) 1 0)

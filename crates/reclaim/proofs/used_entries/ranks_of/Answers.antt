@@ -14,21 +14,21 @@ pub loop-j-init : goal.loop-j-init
 loop-j-init c =
     let a = c.args in
     let x = keys a.body.now a.w a.at a.masked a.mask a.off a.n in
-    (omega arith, refl, ranks_begin x a.base a.start (replicate 513 0) (omega arith) c.requires.3)
+    (refl, ranks_begin x a.base a.start (replicate 513 0) (omega arith) c.requires.3)
 
 pub overflow_add-ranks : goal.overflow_add-ranks
 overflow_add-ranks c =
     let a = c.args in
     let x = keys a.body.now a.w a.at a.masked a.mask a.off a.n in
     let l = c.loop-j in
-    omega (arith, l.invariant.2 l.j (omega arith), rank_le x (a.base + l.j), c.marks_of-marks.ensures l.j (omega arith), one_most (used x (a.base + l.j)))
+    omega (arith, l.invariant.1 l.j (omega arith), rank_le x (a.base + l.j), c.marks_of-marks.ensures l.j (omega arith), one_most (used x (a.base + l.j)))
 
 pub loop-j-preserved : goal.loop-j-preserved
 loop-j-preserved c =
     let a = c.args in
     let x = keys a.body.now a.w a.at a.masked a.mask a.off a.n in
     let l = c.loop-j in
-    (omega arith, rw length-set l.invariant.1, ranks_step x a.base l.j _ _ l.ranks (omega arith) (c.marks_of-marks.ensures l.j (omega arith)) refl l.invariant.2)
+    (rw length-set l.invariant.0, ranks_step x a.base l.j _ _ l.ranks (omega arith) (c.marks_of-marks.ensures l.j (omega arith)) refl l.invariant.1)
 
 pub returns : goal.returns
-returns c = λ j h. c.loop-j.invariant.2 j (omega arith)
+returns c = λ j h. c.loop-j.invariant.1 j (omega arith)

@@ -6,7 +6,4 @@ use Rattle.reclaim.proofs.used_entries.ranks_of.Given as goal
 
 abbrev pub invariant-loop-j : goal.invariant-loop-j
 invariant-loop-j l =
-    (l.j ≤ l.count) × (length l.ranks ≡ 513) × ((i : ℕ) → i ≤ l.j → get_or l.ranks i 0 ≡ rank (keys l.body l.w l.at l.masked l.mask l.off l.n) (l.base + i))
-
-abbrev pub decreases-loop-j : goal.decreases-loop-j
-decreases-loop-j l = l.count - l.j
+    (length l.ranks ≡ 513) × ((i : ℕ) → i ≤ l.j → get_or l.ranks i 0 ≡ rank (keys l.body l.w l.at l.masked l.mask l.off l.n) (l.base + i))

@@ -16,7 +16,7 @@ pub loop-r-init : goal.loop-r-init
 loop-r-init c =
     let a = c.args in
     let x = keys a.body.now a.w a.at a.masked a.mask a.off a.n in
-    (omega arith, refl, λ old l e. e ∙ ap (λ z. splice a.to (encodes a.w z) old) (mixed_none x a.base a.count (omega arith) a.n))
+    λ old l e. e ∙ ap (λ z. splice a.to (encodes a.w z) old) (mixed_none x a.base a.count (omega arith) a.n)
 
 pub block_slot-s-requires : goal.block_slot-s-requires
 block_slot-s-requires c = (c.requires.within.0, omega arith, omega arith)
@@ -34,12 +34,9 @@ loop-r-preserved c =
     let p = c.requires in
     let x = keys a.body.now a.w a.at a.masked a.mask a.off a.n in
     let l = c.loop-r in
-    let s = c.block_slot-s in (
-      omega arith,
-      omega arith,
-      λ old k e.
-          rw add-one (block_step x a.base a.count (omega arith) a.n l.r s.result a.to (get_or a.ranks.now s.result 0) l.room _ old (omega arith) (omega arith) s.ensures.0 (λ q. p.by_index s.result q) (l.invariant.2 old k e) c.put_rank.ensures),
-    )
+    let s = c.block_slot-s in
+    λ old k e.
+          rw add-one (block_step x a.base a.count (omega arith) a.n l.r s.result a.to (get_or a.ranks.now s.result 0) l.room _ old (omega arith) (omega arith) s.ensures.0 (λ q. p.by_index s.result q) (l.invariant old k e) c.put_rank.ensures)
 
 pub returns : goal.returns
 returns c =
@@ -47,4 +44,4 @@ returns c =
     let x = keys a.body.now a.w a.at a.masked a.mask a.off a.n in
     let l = c.loop-r in
     let z : l.r ≡ a.n = omega arith in
-    λ old k e. l.invariant.2 old k e ∙ ap (λ r. splice a.to (encodes a.w (seg (mixed_key x a.base a.count r) 0 a.n)) old) z ∙ ap (λ v. splice a.to (encodes a.w v) old) (mixed_all x a.base a.count (omega arith) a.n)
+    λ old k e. l.invariant old k e ∙ ap (λ r. splice a.to (encodes a.w (seg (mixed_key x a.base a.count r) 0 a.n)) old) z ∙ ap (λ v. splice a.to (encodes a.w v) old) (mixed_all x a.base a.count (omega arith) a.n)

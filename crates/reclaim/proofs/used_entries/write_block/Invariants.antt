@@ -11,9 +11,5 @@ use Rattle.reclaim.proofs.used_entries.write_block.Given as goal
 
 abbrev pub invariant-loop-r : goal.invariant-loop-r
 invariant-loop-r l =
-    (l.r ≤ l.n) × (length l.room ≡ length l.initial.room)
-    × ((old : List ℕ) → l.to + l.w * l.n ≤ length old → l.initial.room ≡ splice l.to (encodes l.w (seg (new_key (keys l.body l.w l.at l.masked l.mask l.off l.n) l.base) 0 l.n)) old
-    → l.room ≡ splice l.to (encodes l.w (seg (mixed_key (keys l.body l.w l.at l.masked l.mask l.off l.n) l.base l.count l.r) 0 l.n)) old)
-
-abbrev pub decreases-loop-r : goal.decreases-loop-r
-decreases-loop-r l = l.n - l.r
+    (old : List ℕ) → l.to + l.w * l.n ≤ length old → l.initial.room ≡ splice l.to (encodes l.w (seg (new_key (keys l.body l.w l.at l.masked l.mask l.off l.n) l.base) 0 l.n)) old
+    → l.room ≡ splice l.to (encodes l.w (seg (mixed_key (keys l.body l.w l.at l.masked l.mask l.off l.n) l.base l.count l.r) 0 l.n)) old
