@@ -18,7 +18,7 @@ use Rattle.run_ends.specs.declared.PhysicalRun.{PhysicalRun}
 use Rattle.columnar.specs.Row.{seg}
 use Rattle.columnar.specs.Types.{half}
 use Rattle.columnar.specs.Entries.{encodes}
-use Rattle.columnar.specs.RunEnd.{end_of, start_of}
+use Rattle.columnar.specs.RunEnd.{end_of}
 use Rattle.columnar.proofs.Items.{entry_end}
 use Rattle.array_data.specs.Tables.{Tables, place, length_of, offset_of, first_buffer, array_with}
 use Rattle.array_data.specs.NodeKinds.{run_end_node}

@@ -82,8 +82,7 @@ pub fn convert_walk(
     let mut ranges = [0u64; 64];
     ranges[1] = entries::length_at(lengths, first, 0);
     let count = n as usize;
-    let mut i = 0;
-    while i < count {
+    for i in 0..count {
         let g = walk_node(
             formats,
             schema,
@@ -104,7 +103,6 @@ pub fn convert_walk(
         if g != 0 {
             return g;
         }
-        i += 1;
     }
     0
 }

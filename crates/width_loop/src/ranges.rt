@@ -56,10 +56,8 @@ pub fn settle_fields(
     ensures { SettlesChildren schema lengths first count whole s n i m ranges }
 {
     let mut node = i + 1;
-    let mut j = 0;
-    while j < m {
+    for _j in 0..m {
         set_child(lengths, first, ranges, node, whole, s, n);
         node = schema::end_of(schema, first as usize, count, node);
-        j += 1;
     }
 }

@@ -1,7 +1,7 @@
 -- THE CALL: what a conversion that is accepted leaves, and what it is refused with. Assumes nothing.
 use mathlib.Core.Path.{◌≡◌, refl, sym, ap, ◌∙◌}
 use mathlib.Core.Bool.{true}
-use mathlib.Core.Logic.{◌⊎◌, inl, inr}
+use mathlib.Core.Logic.{inl, inr}
 use mathlib.Core.List.{List}
 use Prim.Native.Nat.{ℕ}
 use native.Mathlib.Omega.{arith}
@@ -31,7 +31,7 @@ use Rattle.anew.proofs.Result.{Filled, anew_result}
 use Rattle.width_walks.specs.target_rules.Target.{is_target}
 use Rattle.width_walks.proofs.target_rules.Rules.{target_is, target_test}
 use Rattle.width_walks.specs.Nodes.{tree_walk}
-use Rattle.width_walks.proofs.Whole.{Given, convert_refused, convert_done, convert_fills}
+use Rattle.width_walks.proofs.Whole.{convert_refused, convert_done, convert_fills}
 use Rattle.width_walks.proofs.Target.{keep, made, lent, no_ends_lem}
 use Rattle.width_walks.proofs.Lent.{typed_here, low_here, source_here, given_here}
 

@@ -1,17 +1,15 @@
 -- The bytes that the converter's leaves write are those of the walk. Assumes nothing.
-use mathlib.Core.Path.{◌≡◌, refl, sym, ap, ap₂, subst, ◌∙◌}
-use mathlib.Core.Bool.{Bool, true, false, cond}
+use mathlib.Core.Path.{◌≡◌, sym, ap, ap₂, ◌∙◌}
+use mathlib.Core.Bool.{cond}
 use mathlib.Core.List.{List, [], ◌∷◌, ◌++◌, append-nil}
 use Prim.Native.Nat.{ℕ, zero, suc, ◌+◌, ◌*◌, ◌-◌, ◌/◌, ◌%◌, ◌^◌, ◌≤◌, ◌<◌, min}
-use native.Mathlib.Nat.{add-zero}
 use native.Mathlib.Omega.{arith}
-use lib.ListN.{length, take, drop, get_or}
+use lib.ListN.{drop, get_or}
 use lib.Seq.{get_or-take, get_or-drop}
 use lib.Dec.{eqb}
 use Rattle.number.specs.Number.{encode, entry}
 use Rattle.bits.specs.Bits.{bits}
 use Rattle.bits.proofs.Laws.{bit_at}
-use Rattle.utils.specs.Pieces.{pieces, numbers}
 use Rattle.utils.proofs.Pieces.{numbers_same}
 use Rattle.recode.specs.Recode.{recoded, lessened, valid_only}
 use Rattle.recode.proofs.Laws.{less_is, entry_small}
@@ -25,7 +23,7 @@ use Rattle.columnar.proofs.Items.{entry_end, encodes_append}
 use Rattle.model.proofs.Rows.{seg_cong, seg_append}
 use Rattle.model.proofs.Ends.{Ends}
 use Rattle.refinement.specs.walk_is_model.Lent.{Part}
-use Rattle.refinement.proofs.walk_is_model.Parts.{part_length, part_entry}
+use Rattle.refinement.proofs.walk_is_model.Parts.{part_entry}
 use Rattle.refinement.proofs.walk_is_model.Entries.{encodes_pieces}
 use Rattle.anew.specs.widths.Converted.{offsets_of}
 use Rattle.anew.proofs.widths.Plain.{first_least}

@@ -1,5 +1,5 @@
 -- THE CONVERTER ON LENT MEMORY: which ground it answers, and what an accepted call leaves. Assumes nothing.
-use mathlib.Core.Path.{◌≡◌, refl, sym, ap, subst, ◌∙◌}
+use mathlib.Core.Path.{◌≡◌, refl, ap, ◌∙◌}
 use mathlib.Core.Bool.{Bool, true, false, cond}
 use mathlib.Core.List.{List}
 use Prim.Native.Nat.{ℕ}
@@ -25,7 +25,7 @@ use Rattle.anew.proofs.Result.{lent_for}
 use Rattle.width_walks.specs.target_rules.Target.{is_target}
 use Rattle.width_walks.proofs.target_rules.Rules.{target_is}
 use Rattle.width_walks.specs.Call.{target_ground, planned, walked, convert}
-use Rattle.width_walks.proofs.Answer.{widths, column, some_ground, walk_ground, walk_none, after_tables, shows, same_rows, lent_again}
+use Rattle.width_walks.proofs.Answer.{widths, some_ground, walk_ground, walk_none, same_rows, lent_again}
 
 module _ (formats schema : List ℕ) (x : Tables) (first n target tn : ℕ) where
   passing : is_target formats schema first n target tn ≡ true → target_ground formats schema x first n target tn ≡ 0

@@ -2,8 +2,7 @@
 use mathlib.Core.Path.{◌≡◌, refl, sym, ap, fun_ext, ◌∙◌}
 use mathlib.Core.Bool.{Bool, true, false, cond, ◌&&◌}
 use mathlib.Core.List.{List, [], ◌∷◌}
-use mathlib.Core.Option.{Option}
-use Prim.Native.Nat.{ℕ, zero, suc, ◌+◌, ◌-◌, ◌≤◌, ◌<◌}
+use Prim.Native.Nat.{ℕ, zero, suc, ◌+◌, ◌-◌, ◌≤◌}
 use native.Mathlib.Omega.{arith}
 use lib.ListN.{length, get_or, replicate, length-replicate}
 use lib.Dec.{ltb, eqb}
@@ -14,7 +13,7 @@ use Rattle.schema.specs.formats.Code.{is_fixed, is_string, is_view, is_list_view
 use Rattle.schema.specs.formats.Types.{number_of, number_or}
 use Rattle.schema.specs.Tree.{dictionary, code_of, ids_of}
 use Rattle.array_data.specs.Tables.{Tables}
-use Rattle.array_data.specs.NodeKinds.{NodeKind, fixed_node, string_node, view_node, list_view_node, list_node, run_end_node, kind_at}
+use Rattle.array_data.specs.NodeKinds.{fixed_node, string_node, view_node, list_view_node, list_node, run_end_node, kind_at}
 use Rattle.array_data.specs.Typed.{Tree}
 use Rattle.array_data.specs.lent_tables.Lent.{tables}
 use Rattle.array_data.specs.type_tree.Lent.{tree_of}
@@ -26,7 +25,7 @@ use Rattle.plan.proofs.Words.{filled_at, filled_other}
 use Rattle.anew.specs.ResultPlan.{keeps_from, plan_anew}
 use Rattle.width_walks.specs.target_rules.Target.{ends_at}
 use Rattle.width_walks.specs.Nodes.{is_run, ends_in, comes_from}
-use Rattle.width_walks.specs.Call.{from_words, keeping, planned}
+use Rattle.width_walks.specs.Call.{from_words, planned}
 use Rattle.width_walks.proofs.Readiness.{came}
 use Rattle.array_data.proofs.Names.{ids_or, number_kind, union_kind}
 

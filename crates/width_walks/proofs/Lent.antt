@@ -1,11 +1,11 @@
 -- A column that is accepted and a target that passes. Assumes nothing.
-use mathlib.Core.Path.{◌≡◌, refl, sym, ap, ap₂, subst, ◌∙◌}
-use mathlib.Core.Bool.{Bool, true, false, not, ◌&&◌, ◌||◌, false≢true}
+use mathlib.Core.Path.{◌≡◌, refl, sym, ap₂, subst, ◌∙◌}
+use mathlib.Core.Bool.{Bool, true, not, ◌&&◌, ◌||◌}
 use mathlib.Core.List.{List, [], ◌∷◌}
-use Prim.Native.Nat.{ℕ, zero, suc, ◌+◌, ◌*◌, ◌^◌, ◌≤◌, ◌<◌}
+use Prim.Native.Nat.{ℕ, ◌+◌, ◌*◌, ◌^◌, ◌≤◌, ◌<◌}
 use native.Mathlib.Omega.{arith}
 use lib.ListN.{length, get_or}
-use lib.Dec.{T, leb, ltb}
+use lib.Dec.{T, leb}
 use lib.Ieee.Bits.{is_true}
 use borrow.Author.Tests.{leb-true, ltb-true}
 use Rattle.columnar.specs.Row.{seg}
@@ -18,7 +18,7 @@ use Rattle.schema.proofs.Known.{every_at, typed_shape}
 use Rattle.array_data.specs.Tables.{Tables, length_of, offset_of, place, data_buffer, data_buffers, in_body}
 use Rattle.array_data.specs.Rules.{one_in, buffers_in, view_rule}
 use Rattle.array_data.specs.NodeKinds.{view_node}
-use Rattle.array_data.specs.Typed.{Tree, tables_from, column_of, kind_rule, node_rule, source_rule, kind_in}
+use Rattle.array_data.specs.Typed.{tables_from, column_of, kind_rule, node_rule, source_rule, kind_in}
 use Rattle.array_data.specs.type_tree.Lent.{tree_of, type_of}
 use Rattle.array_data.proofs.type_tree.Ids.{both}
 use Rattle.array_data.proofs.lent_tables.Laws.{and_left, and_right}
@@ -31,7 +31,6 @@ use Rattle.model.proofs.Bits.{length_seg}
 use Rattle.walk.specs.State.{top}
 use Rattle.refinement.specs.walk_is_model.Memory.{Memory}
 use Rattle.refinement.specs.log_in_room.Room.{AllBelow}
-use Rattle.anew.specs.widths.Widths.{Widths}
 use Rattle.anew.specs.Stood.{BuffersNamed}
 use Rattle.width_walks.specs.target_rules.Target.{is_target}
 use Rattle.width_walks.proofs.target_rules.Inverse.{ReadsAs, reads_at}

@@ -10,7 +10,6 @@ use borrow.Author.Tests.{ltb-true, ltb-false, eq-eqb, ne_eqb}
 use Rattle.columnar.specs.Types.{Number, Plain, fixed, string, Ty}
 use Rattle.columnar.specs.Formed.{Ids}
 use Rattle.columnar.specs.Wider.{Declared}
-use Rattle.columnar.proofs.Test.{member_agrees}
 use Rattle.schema.specs.Tree.{below, end_from, end_of, child_at, whole, ceilings, typed}
 use Rattle.schema.proofs.Trees.{children_end, end_after, end_inside, child_inside}
 use Rattle.schema.proofs.Depth.{child_before}
@@ -19,7 +18,7 @@ use Rattle.array_data.specs.NodeKinds.{NodeKind, fixed_node, string_node, view_n
 use Rattle.array_data.specs.Typed.{Tree, child_node, node_of, field_of, Is, MeansPlain, Means, kind_in}
 use Rattle.array_data.specs.type_tree.Lent.{tree_of, type_of}
 use Rattle.array_data.proofs.type_tree.Shaped.{Shaped, of_plain_lem, of_view, of_list, of_lists_lem, of_sparse, of_dense, of_run_lem, of_dictionary, shaped}
-use Rattle.array_data.proofs.type_tree.Lent.{child_same, after_leaf, second_child, means, whole_end}
+use Rattle.array_data.proofs.type_tree.Lent.{child_same, after_leaf, second_child, means}
 use Rattle.refinement.specs.walk_is_model.Holds.{child_of}
 use Rattle.anew.specs.widths.Widths.{PlainWidths, s_fixed, s_string, Widths, s_plain, s_view, s_list_view, s_list, s_sparse, s_dense, s_run_end, s_dictionary}
 use Rattle.width_walks.specs.target_rules.Target.{NodeWidths, Target}

@@ -1,16 +1,16 @@
 -- A column of lent tables is ready to be written by the plan of its target. Assumes nothing.
 use mathlib.Core.Path.{◌≡◌, refl, sym, ap, subst, ◌∙◌}
-use mathlib.Core.Bool.{Bool, true, false, cond}
+use mathlib.Core.Bool.{true, false, cond}
 use mathlib.Core.List.Memᴰ
 use mathlib.Core.List.{List, Memᴰ}
 use Prim.Native.Nat.{ℕ, zero, suc, ◌+◌, ◌≤◌, ◌<◌}
 use native.Mathlib.Omega.{arith}
-use lib.ListN.{length, get_or}
+use lib.ListN.{get_or}
 use lib.Dec.{ltb}
-use Rattle.columnar.specs.Types.{Plain, fixed, string, Ty, t_plain, t_view, t_list_view, t_list, t_sparse, t_dense, t_run_end, t_dictionary}
+use Rattle.columnar.specs.Types.{Ty}
 use Rattle.columnar.specs.Array.{null_count_of}
 use Rattle.array_data.specs.Tables.{Tables, length_of, data_buffers, array_with}
-use Rattle.array_data.specs.NodeKinds.{NodeKind, fixed_node, string_node, view_node, list_view_node, list_node, sparse_node, dense_node, run_end_node, dictionary_node}
+use Rattle.array_data.specs.NodeKinds.{NodeKind, fixed_node, view_node, list_view_node, list_node, dictionary_node}
 use Rattle.array_data.specs.Typed.{Tree, node_of, plain_body, body_of, column_of, tables_from, kind_in, subtree_end}
 use Rattle.array_data.specs.lent_tables.Lent.{tables}
 use Rattle.model.proofs.Bits.{get_d_seg}
@@ -18,7 +18,7 @@ use Rattle.walk.specs.State.{keeps_of, top}
 use Rattle.refinement.specs.walk_is_model.Memory.{Memory}
 use Rattle.refinement.specs.walk_is_model.Holds.{flag, child_of}
 use Rattle.refinement.specs.orders.Order.{Lent}
-use Rattle.anew.specs.widths.Widths.{PlainWidths, Widths, s_plain, s_view, s_list_view, s_list, s_sparse, s_dense, s_run_end, s_dictionary}
+use Rattle.anew.specs.widths.Widths.{Widths, s_plain, s_view, s_list_view, s_list, s_sparse, s_dense, s_run_end, s_dictionary}
 use Rattle.anew.specs.Stood.{BuffersNamed}
 use Rattle.anew.specs.ResultPlan.{keeps_from}
 use Rattle.anew.proofs.Bits.{keeps_typed}

@@ -1,26 +1,23 @@
 -- A lent column and a target that passes: what the loop over nodes comes to. Assumes nothing.
-use mathlib.Core.Path.{◌≡◌, refl, sym, ap, subst, ◌∙◌}
+use mathlib.Core.Path.{◌≡◌, sym, ap, ◌∙◌}
 use mathlib.Core.Bool.{Bool, true, false}
-use mathlib.Core.List.{List, []}
+use mathlib.Core.List.{List}
 use Prim.Native.Nat.{ℕ, zero, suc, ◌≤◌, ◌<◌}
 use native.Mathlib.Omega.{arith}
-use lib.ListN.{get_or}
-use lib.Dec.{ltb}
-use Rattle.columnar.specs.Types.{Ty}
 use Rattle.columnar.specs.Array.{ok}
 use Rattle.columnar.specs.Reading.{Source}
 use Rattle.schema.specs.formats.Code.{is_run_end}
 use Rattle.schema.specs.Tree.{ceilings, typed}
 use Rattle.schema.specs.Tree as trees
 use Rattle.schema.proofs.Known.{typed_whole}
-use Rattle.array_data.specs.Tables.{Tables, length_of, data_buffers, array_with}
-use Rattle.array_data.specs.NodeKinds.{view_node, kind_at}
-use Rattle.array_data.specs.Typed.{Tree, tables_from, body_of, column_of, kind_in}
+use Rattle.array_data.specs.Tables.{Tables, length_of, data_buffers}
+use Rattle.array_data.specs.NodeKinds.{view_node}
+use Rattle.array_data.specs.Typed.{Tree, tables_from, column_of, kind_in}
 use Rattle.array_data.specs.lent_tables.Lent.{tables}
 use Rattle.array_data.specs.type_tree.Lent.{tree_of, type_of}
 use Rattle.array_data.proofs.type_tree.Shaped.{at_run}
 use Rattle.array_data.proofs.type_tree.Lent.{some_node, whole_end}
-use Rattle.walk.specs.State.{code_of, end_of, keeps_of, top}
+use Rattle.walk.specs.State.{code_of, end_of, top}
 use Rattle.plan.specs.parts.Parts.{copied}
 use Rattle.refinement.specs.walk_is_model.Memory.{Memory}
 use Rattle.refinement.specs.walk_is_model.Holds.{flag}

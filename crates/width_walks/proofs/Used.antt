@@ -2,10 +2,9 @@
 use mathlib.Core.Path.{◌≡◌, refl, sym, subst}
 use mathlib.Core.Bool.{Bool, true, false, cond}
 use mathlib.Core.List.{List, [], ◌∷◌, ◌++◌, map, Memᴰ}
-use Prim.Native.Nat.{ℕ, zero, suc, ◌+◌, ◌-◌, ◌*◌, ◌<◌}
+use Prim.Native.Nat.{ℕ, zero, suc, ◌+◌, ◌*◌}
 use native.Mathlib.Omega.{arith}
-use lib.ListN.{take, drop, get_or}
-use lib.Dec.{ltb, eqb}
+use lib.Dec.{eqb}
 use borrow.Author.Tests.{eqb-false}
 use Rattle.number.specs.Number.{encode}
 use Rattle.columnar.specs.Row.{seg}
@@ -25,7 +24,7 @@ use Rattle.refinement.specs.log_in_room.Room.{AllBelow}
 use Rattle.refinement.proofs.log_in_room.Uses.{Uses, uses_done, uses_wrote, uses_cond, uses_need, uses_next}
 use Rattle.refinement.proofs.log_in_room.Bytes.{bytes_encode, bytes_part}
 use Rattle.anew.specs.widths.Widths.{PlainWidths, s_fixed, s_string, Widths, s_plain, s_view, s_list_view, s_list, s_sparse, s_dense, s_run_end, s_dictionary}
-use Rattle.anew.specs.widths.Converted.{span_of, offsets_of, first_of, many_of, ends_of, pick}
+use Rattle.anew.specs.widths.Converted.{span_of, offsets_of, first_of, many_of, ends_of}
 use Rattle.anew.proofs.widths.Fits.{picked}
 use Rattle.width_walks.specs.Convert.{fields_walk, bits_walk, node_walk, plain_walk, body_walk, convert_walk}
 

@@ -25,9 +25,7 @@ pub fn write_from(formats: &[u8], schema: &[u32], first: usize, n: usize, from: 
     requires { (n ≤ 32) × (first < 2 ^ 32) }
     ensures { from.new ≡ from_words (was formats) (was schema) first n from.old }
 {
-    let mut i = 0;
-    while i < n {
+    for i in 0..n {
         from[i] = from_word(formats, schema, first, i);
-        i += 1;
     }
 }

@@ -115,12 +115,10 @@ pub fn is_target(
     if !schema::is_typed(formats, schema, first2, n2) {
         return false;
     }
-    let mut node = 0;
-    while node < n {
+    for node in 0..n {
         if !is_like_node(formats, schema, first, first2, node) {
             return false;
         }
-        node += 1;
     }
     true
 }

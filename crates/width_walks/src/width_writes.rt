@@ -6,6 +6,7 @@ ghost use Rattle.number.specs.Number.{splice, encode};
 ghost use Rattle.walk.specs.Log.{put, apply_if};
 ghost use Rattle.recode.specs.Recode.{recoded, lessened, valid_only};
 
+use number::Unsigned;
 use recode::{keys, offsets};
 use walk::plan_words;
 
@@ -98,9 +99,9 @@ fn write_end(room: &mut [u8], at: usize, w: u64, v: u64)
     ensures { room.new ≡ splice at (encode w v) room.old }
 {
     match w {
-        2 => number::write_u16(room, at, (v % 65536) as u16),
-        4 => number::write_u32(room, at, (v % 4294967296) as u32),
-        _ => number::write_u64(room, at, v),
+        2 => u16::truncate(v).write(room, at),
+        4 => u32::truncate(v).write(room, at),
+        _ => v.write(room, at),
     }
 }
 

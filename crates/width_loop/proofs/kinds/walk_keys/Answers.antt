@@ -7,9 +7,6 @@ use Rattle.array_data.specs.entries.Entries.{column}
 use Rattle.width_loop.proofs.Own.{keys_no, keys_yes, next_settles}
 use Rattle.width_loop.proofs.kinds.walk_keys.Goals as goal
 
-pub key_fits-requires : goal.key_fits-requires
-key_fits-requires c = c.requires.i_bound.4
-
 pub returns-then-not-key_fits : goal.returns-then-not-key_fits
 returns-then-not-key_fits c =
     let a = c.args in

@@ -10,9 +10,6 @@ returns-then-w-w2 c =
     let a = c.args in
     all_small a.w a.w2 a.body.now a.from a.n c.requires.w_value.0 c.requires.w_value.1 (omega arith) c.requires.n_in_bounds.1
 
-pub half_of-limit-requires : goal.half_of-limit-requires
-half_of-limit-requires c = c.requires.w_value.1
-
 pub returns-then-most-limit : goal.returns-then-most-limit
 returns-then-most-limit c =
     let a = c.args in

@@ -10,9 +10,6 @@ returns-then-n-eq0 c =
     let a = c.args in
     record { any_tree = (λ t t2 okay. no_runs a.plan.now a.parts.now a.write a.room.now (column a.lengths.now a.places.now [] a.body.now a.first) a.i a.w a.w2 a.s a.counters.now t t2 okay c.if-n-eq0.true c.add_rows.ensures); ranges_value = λ t t2 z. no_range (column a.lengths.now a.places.now [] a.body.now a.first) a.i a.w a.s a.ranges.now c.if-n-eq0.true c.set_range.ensures }
 
-pub sum_fits-requires : goal.sum_fits-requires
-sum_fits-requires c = c.requires.w_value.1
-
 pub returns-then-not-sum_fits : goal.returns-then-not-sum_fits
 returns-then-not-sum_fits c =
     let a = c.args in

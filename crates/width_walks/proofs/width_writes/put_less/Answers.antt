@@ -15,7 +15,7 @@ pub recode_less-requires : goal.recode_less-requires
 recode_less-requires c =
     let a = c.args in
     let room = times_within a.n a.w2 (made a.plan.now a.parts.now (length a.room.now) a.write a.i a.b 0 (scaled a.n a.w2) (rw c.scale-size.ensures at c.target.ensures) c.in-Some.is) (omega arith) in
-    record { n_in_bounds = (room, omega arith); w_value = c.requires.w_value; w2_value = c.requires.w2_value }
+    record { n_in_bounds = (room, omega arith); w_value = λ p. c.requires.w_value; w2_value = λ p. c.requires.w2_value }
 
 pub returns-in-Some : goal.returns-in-Some
 returns-in-Some c =

@@ -1,5 +1,4 @@
 -- `width_writes::write_end` meets its contract. Assumes nothing.
-use native.Mathlib.Omega.{arith}
 use mathlib.Core.Path.{ap, ◌∙◌}
 use mathlib.Core.List.{List}
 use Prim.Native.Nat.{ℕ}
@@ -7,18 +6,12 @@ use Rattle.number.specs.Number.{splice}
 use Rattle.number.proofs.Laws.{encode_mod}
 use Rattle.width_walks.proofs.width_writes.write_end.Goals as goal
 
-pub write_u64-requires : goal.write_u64-requires
-write_u64-requires c = omega (arith, (c.requires.w_value c.in_default.in_default-own.rest.0.1 c.in_default.in_default-own.rest.1))
-
 pub returns-in-2 : goal.returns-in-2
 returns-in-2 c =
     let a = c.args in
-    rw c.in-2.is (c.write_u16.ensures ∙ ap (λ (z : List ℕ). splice a.at z a.room.now) (encode_mod 2 a.v))
+    rw c.in-2.is (c.write.ensures ∙ ap (λ (z : List ℕ). splice a.at z a.room.now) (rw c.truncate.ensures (encode_mod 2 a.v)))
 
 pub returns-in-4 : goal.returns-in-4
 returns-in-4 c =
     let a = c.args in
-    rw c.in-4.is (c.write_u32.ensures ∙ ap (λ (z : List ℕ). splice a.at z a.room.now) (encode_mod 4 a.v))
-
-pub returns-in_default : goal.returns-in_default
-returns-in_default c = rw (c.requires.w_value c.in_default.in_default-own.rest.0.1 c.in_default.in_default-own.rest.1) c.write_u64.ensures
+    rw c.in-4.is (c.write-in-4.ensures ∙ ap (λ (z : List ℕ). splice a.at z a.room.now) (rw c.truncate-in-4.ensures (encode_mod 4 a.v)))

@@ -3,16 +3,10 @@ use native.Mathlib.Omega.{arith}
 use Rattle.width_walks.proofs.width_writes.Sizes.{times_last, ends_join}
 use Rattle.width_walks.proofs.width_writes.write_ends.Goals as goal
 
-pub overflow_sub-m : goal.overflow_sub-m
-overflow_sub-m c = omega arith
-
 pub recode_less-requires : goal.recode_less-requires
 recode_less-requires c =
     let a = c.args in
-    record { n_in_bounds = (omega (arith, times_last a.w2 a.m c.requires.le_m.0), omega (arith, times_last a.w a.m c.requires.le_m.0)); w_value = c.requires.w_value; w2_value = c.requires.w2_value }
-
-pub overflow_sub-m-2 : goal.overflow_sub-m-2
-overflow_sub-m-2 c = omega arith
+    record { n_in_bounds = (omega (arith, times_last a.w2 a.m c.requires.le_m.0), omega (arith, times_last a.w a.m c.requires.le_m.0)); w_value = λ p. c.requires.w_value; w2_value = λ p. c.requires.w2_value }
 
 pub overflow_mul-w2 : goal.overflow_mul-w2
 overflow_mul-w2 c =
