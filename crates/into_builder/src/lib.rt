@@ -42,9 +42,7 @@ fn load(counters: &[u64]) -> [u64; plan_words::COUNTERS]
     ensures { result ≡ was counters }
 {
     let mut tally = [0u64; plan_words::COUNTERS];
-    for i in 0..plan_words::COUNTERS {
-        tally[i] = counters[i];
-    }
+    tally.copy_from_slice(counters);
     tally
 }
 

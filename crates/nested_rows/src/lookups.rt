@@ -9,6 +9,7 @@ ghost use Rattle.walk.specs.Nulls.{nullable_child};
 ghost use Rattle.leaf_walk.specs.Join.{join};
 
 use array_data::lent_tables;
+use number::Unsigned;
 use run_ends::{LogicalRow, RunRange};
 use walk::plan_words;
 
@@ -41,9 +42,9 @@ pub fn entry_at(body: &[u8], at: u64, w: u64, k: u64) -> u64
 {
     let from = at as usize;
     if w == 4 {
-        return number::read_u32(body, from + 4 * (k as usize)) as u64;
+        return u32::read(body, from + 4 * (k as usize)).to_u64();
     }
-    number::read_u64(body, from + 8 * (k as usize))
+    u64::read(body, from + 8 * (k as usize))
 }
 
 // The child with that id among those from node `from` on, one behind the other up to `end`; 32 where there is none.

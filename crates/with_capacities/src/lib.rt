@@ -25,9 +25,7 @@ pub fn store(to: &mut [u64], from: &[u64], n: usize)
     requires { (length to.old ≡ n) × (length from.now ≡ n) }
     ensures { to.new ≡ was from }
 {
-    for i in 0..n {
-        to[i] = from[i];
-    }
+    to.copy_from_slice(from);
 }
 
 // A copy; that it has 96 elements is known of an array that a call returns.
