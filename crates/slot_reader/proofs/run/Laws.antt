@@ -14,7 +14,6 @@ use Rattle.run_ends.proofs.Left.{Left, found_left, found_some}
 use Rattle.run_ends.specs.declared.PhysicalRun.{PhysicalRun}
 use Rattle.run_ends.specs.declared.Found.{Found}
 use Rattle.run_ends.specs.declared.Found.TheVariants as found
-use Rattle.slot_reader.specs.declared.run.RowRun.{RowRun}
 use Rattle.slot_reader.specs.declared.run.RowRun.TheVariants as answer
 use Rattle.slot_reader.specs.run.Rows.{is_width, ends_run, as_row, row_run_by, row_run, row_run_first}
 
