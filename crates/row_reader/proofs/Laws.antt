@@ -22,20 +22,17 @@ use Rattle.slot_reader.specs.declared.run.RowRun.TheVariants as run
 use Rattle.array_data.specs.node_words.Words.{word}
 use Rattle.array_data.specs.entries.Entries.{entry_in, valid_in}
 use Rattle.array_data.proofs.entries.Laws.{cut}
-use Rattle.array_data.specs.declared.entries.Entry.{Entry}
-use Rattle.array_data.specs.declared.entries.Entry.TheVariants as entry
 use Rattle.array_data.specs.declared.entries.Validity.{Validity}
 use Rattle.array_data.specs.declared.entries.Validity.TheVariants as validity
 use Rattle.slot_reader.specs.declared.RowRead.{RowRead}
 use Rattle.slot_reader.specs.declared.RowRead.TheVariants as row
 use Rattle.slot_reader.specs.Slots.{code_word, code_number, known, kind_word, slot_by, slot_read}
 use Rattle.slot_reader.proofs.Codes.{knows, as_fixed, as_string, as_view, as_list_view, as_list, as_union, as_run, unknown}
-use Rattle.row_reader.specs.declared.Child.{Child}
-use Rattle.row_reader.specs.declared.Child.TheVariants as child
 use Rattle.row_reader.specs.declared.Step.{Step}
 use Rattle.row_reader.specs.declared.Step.TheVariants as step
 use Rattle.row_reader.specs.Walk.{refused, end_word, child_from, child_of, chosen, into, under_id, code_width, ends_in, run_in, ran, run_of, runs_step, run_at, step_by, step_on, sighted, step_at, Walked, walked_to, under, follow, walk, is_refused, kept, row_at}
 use Rattle.array_data.proofs.Names.{number_kind, union_kind}
+use Rattle.std.specs.Prelude.{Some, None, Option}
 
 -- ---- a union's child
 
@@ -49,11 +46,11 @@ module _ (tree : List ℕ) where
   end_small i c e h = omega arith
 
   module _ (id end c node : ℕ) where
-    pub from_past : c < 16 → end ≤ node → child_from tree id end (16 - c) node ≡ child.Missing
+    pub from_past : c < 16 → end ≤ node → child_from tree id end (16 - c) node ≡ None
     unfolding child_from
     from_past l h = let e : 16 - c ≡ suc (16 - (c + 1)) = omega arith in rw (e, le-ltb node end h)
 
-    pub from_here : c < 16 → node < end → word tree node 3 ≡ id → child_from tree id end (16 - c) node ≡ child.Node node
+    pub from_here : c < 16 → node < end → word tree node 3 ≡ id → child_from tree id end (16 - c) node ≡ Some node
     unfolding child_from
     from_here l h q = let e : 16 - c ≡ suc (16 - (c + 1)) = omega arith in rw (e, lt-ltb node end h, eq-eqb (word tree node 3) id q)
 
@@ -61,7 +58,7 @@ module _ (tree : List ℕ) where
     unfolding child_from
     from_next l h q = let e : 16 - c ≡ suc (16 - (c + 1)) = omega arith in rw (e, lt-ltb node end h, ne_eqb (word tree node 3) id q)
 
-    pub from_last : 16 ≤ c → child_from tree id end (16 - c) node ≡ child.Missing
+    pub from_last : 16 ≤ c → child_from tree id end (16 - c) node ≡ None
     unfolding child_from
     from_last l = let e : 16 - c ≡ 0 = omega arith in rw e
 
@@ -70,18 +67,18 @@ module _ (tree : List ℕ) where
     unfolding into
     into_big h = rw (lt-leb id 127 h)
 
-    pub into_child : (c : Child) → c ≡ child_of tree i id → id ≤ 127 → chosen tree id r c ≡ into tree i id r
+    pub into_child : (c : Option ℕ) → c ≡ child_of tree i id → id ≤ 127 → chosen tree id r c ≡ into tree i id r
     unfolding into
     into_child c e h = rw (le-leb id 127 h) (ap (chosen tree id r) e)
 
-  module _ (i : ℕ) (e f : Entry) where
-    pub no_id : e ≡ entry.Outside → refused 12 ≡ under_id tree i e f
+  module _ (i : ℕ) (e f : Option ℕ) where
+    pub no_id : e ≡ None → refused 12 ≡ under_id tree i e f
     no_id p = ap (λ x. under_id tree i x f) (sym p)
 
-    pub no_row : (a : ℕ) → e ≡ entry.Value a → f ≡ entry.Outside → refused 12 ≡ under_id tree i e f
+    pub no_row : (a : ℕ) → e ≡ Some a → f ≡ None → refused 12 ≡ under_id tree i e f
     no_row a p q = rw (p, q)
 
-    pub both_held : (a b : ℕ) → e ≡ entry.Value a → f ≡ entry.Value b → into tree i a b ≡ under_id tree i e f
+    pub both_held : (a b : ℕ) → e ≡ Some a → f ≡ Some b → into tree i a b ≡ under_id tree i e f
     both_held a b p q = rw (p, q)
 
 -- ---- run ends
@@ -154,7 +151,7 @@ module _ (tree : List ℕ) (x : Tables) (i k code : ℕ) (e : code ≡ code_word
   step_as : (kind : NodeKind) → known tree i ≡ true → kind_word tree i ≡ kind → step_by tree x kind i k ≡ step_on tree x i k
   step_as kind h q = rw (h, q)
 
-  pub step_sparse : is_sparse code ≡ true → under_id tree i (entry_in 1 (first_buffer x i) k) (entry.Value k) ≡ step_on tree x i k
+  pub step_sparse : is_sparse code ≡ true → under_id tree i (entry_in 1 (first_buffer x i) k) (Some k) ≡ step_on tree x i k
   step_sparse q =
       let u : is_union code ≡ true = ap is_union (eqb-true code 21 q) in
       step_as (sparse_node []) (knows tree i code e 21 22 u (omega arith)) (as_union tree i code e u ∙ ap (λ b. union_kind b []) q)

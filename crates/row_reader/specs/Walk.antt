@@ -9,17 +9,14 @@ use Rattle.slot_reader.specs.declared.run.RowRun.{RowRun}
 use Rattle.slot_reader.specs.declared.run.RowRun.TheVariants as run
 use Rattle.array_data.specs.node_words.Words.{word}
 use Rattle.array_data.specs.entries.Entries.{entry_in, valid_in}
-use Rattle.array_data.specs.declared.entries.Entry.{Entry}
-use Rattle.array_data.specs.declared.entries.Entry.TheVariants as entry
 use Rattle.array_data.specs.declared.entries.Validity.{Validity}
 use Rattle.array_data.specs.declared.entries.Validity.TheVariants as validity
 use Rattle.slot_reader.specs.declared.RowRead.{RowRead}
 use Rattle.slot_reader.specs.declared.RowRead.TheVariants as row
 use Rattle.slot_reader.specs.Slots.{code_word, known, kind_word, slot_by}
-use Rattle.row_reader.specs.declared.Child.{Child}
-use Rattle.row_reader.specs.declared.Child.TheVariants as child
 use Rattle.row_reader.specs.declared.Step.{Step}
 use Rattle.row_reader.specs.declared.Step.TheVariants as step
+use Rattle.std.specs.Prelude.{Some, None, Option}
 
 -- nothing to go on to: a ground of refusal
 abbrev pub refused : ℕ → Step
@@ -33,28 +30,28 @@ module _ (tree : List ℕ) where
   end_word i = min (word tree i 2) 32
 
   -- the first of the f nodes one behind the other from node i on that has this id, before `end`
-  unfoldable pub child_from : ℕ → ℕ → ℕ → ℕ → Child
-  child_from id end zero i = child.Missing
+  unfoldable pub child_from : ℕ → ℕ → ℕ → ℕ → Option ℕ
+  child_from id end zero i = None
   child_from id end (suc f) i =
-      cond (ltb i end) (cond (eqb (word tree i 3) id) (child.Node i) (child_from id end f (word tree i 2))) child.Missing
+      cond (ltb i end) (cond (eqb (word tree i 3) id) (Some i) (child_from id end f (word tree i 2))) None
 
   -- the child of node i that has this id: "at most 16 union fields"
-  abbrev pub child_of : ℕ → ℕ → Child
+  abbrev pub child_of : ℕ → ℕ → Option ℕ
   child_of i id = child_from id (end_word i) 16 (suc i)
 
-  abbrev pub chosen : ℕ → ℕ → Child → Step
-  chosen id r (child.Node j) = step.Choose id j r
-  chosen id r child.Missing = refused 12
+  abbrev pub chosen : ℕ → ℕ → Option ℕ → Step
+  chosen id r (Some j) = step.Choose id j r
+  chosen id r None = refused 12
 
   -- on to row r of the child with this id: "ids 0 to 127"
   unfoldable pub into : ℕ → ℕ → ℕ → Step
   into i id r = cond (leb id 127) (chosen id r (child_of i id)) (refused 12)
 
   -- .. where both are held
-  abbrev pub under_id : ℕ → Entry → Entry → Step
-  under_id i (entry.Value id) (entry.Value r) = into i id r
-  under_id i (entry.Value id) entry.Outside = refused 12
-  under_id i entry.Outside r = refused 12
+  abbrev pub under_id : ℕ → Option ℕ → Option ℕ → Step
+  under_id i (Some id) (Some r) = into i id r
+  under_id i (Some id) None = refused 12
+  under_id i None r = refused 12
 
   -- the bytes of node i's numbers
   abbrev pub code_width : ℕ → ℕ
@@ -99,7 +96,7 @@ module _ (tree : List ℕ) (x : Tables) where
   step_by view_node i k = step.Done (slot_by tree x view_node i k)
   step_by (list_view_node w) i k = step.Done (slot_by tree x (list_view_node w) i k)
   step_by (list_node w) i k = step.Done (slot_by tree x (list_node w) i k)
-  step_by (sparse_node ids) i k = under_id tree i (entry_in 1 (first_buffer x i) k) (entry.Value k)
+  step_by (sparse_node ids) i k = under_id tree i (entry_in 1 (first_buffer x i) k) (Some k)
   step_by (dense_node ids) i k = under_id tree i (entry_in 1 (first_buffer x i) k) (entry_in 4 (second_buffer x i) k)
   step_by (run_end_node w) i k = runs_step x i w k
   step_by (dictionary_node m) i k = step.Done (slot_by tree x (dictionary_node m) i k)

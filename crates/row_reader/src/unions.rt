@@ -1,13 +1,11 @@
 // From a union's slot to its child's.
-ghost use Rattle.std.specs.Prelude.{◌≡◌, [], ◌+◌, ◌≤◌, ◌<◌, ◌^◌};
+ghost use Rattle.std.specs.Prelude.{◌≡◌, Some, [], ◌+◌, ◌≤◌, ◌<◌, ◌^◌};
 ghost use Rattle.clauses.specs.Slices.{was};
 ghost use Rattle.array_data.specs.Tables.{first_buffer, second_buffer};
 ghost use Rattle.array_data.specs.entries.Entries.{column, entry_in};
-ghost use Rattle.array_data.specs.declared.entries.Entry.TheVariants.{Value};
 ghost use Rattle.row_reader.specs.Walk.{end_word, child_of, into, under_id};
 
-use crate::{Child, Step};
-use array_data::entries::Entry;
+use crate::Step;
 use array_data::{entries, node_words};
 use slot_reader::RowRead;
 
@@ -25,22 +23,22 @@ fn end_word(tree: &[u64], i: usize) -> usize
 }
 
 // The child of the union node i that has this id.
-fn find_child(tree: &[u64], i: usize, id: u64) -> Child
+fn find_child(tree: &[u64], i: usize, id: u64) -> Option<usize>
     requires { i < 2 ^ 32 }
     ensures { result ≡ child_of (was tree) i id }
 {
     let end = end_word(tree, i);
     let mut node = i + 1;
-    for c in 0..16usize {
+    for _step in 0..16usize {
         if end <= node {
-            return Child::Missing;
+            return None;
         }
         if node_words::word(tree, node, 3) == id {
-            return Child::Node(node);
+            return Some(node);
         }
         node = node_words::word(tree, node, 2) as usize;
     }
-    Child::Missing
+    None
 }
 
 // On to row `row` of the child with this id.
@@ -52,12 +50,12 @@ fn step_into(tree: &[u64], i: usize, id: u64, row: u64) -> Step
         return Step::Done(RowRead::Refused(12));
     }
     match find_child(tree, i, id) {
-        Child::Node(node) => Step::Choose {
+        Some(node) => Step::Choose {
             id: id as u8,
             node,
             row,
         },
-        Child::Missing => Step::Done(RowRead::Refused(12)),
+        None => Step::Done(RowRead::Refused(12)),
     }
 }
 
@@ -71,11 +69,11 @@ pub fn step_sparse(
     slot: u64,
 ) -> Step
     requires { i < 2 ^ 32 }
-    ensures { result ≡ under_id (was tree) i (entry_in 1 (first_buffer (column [] (was places) [] (was body) first) i) slot) (Value slot) }
+    ensures { result ≡ under_id (was tree) i (entry_in 1 (first_buffer (column [] (was places) [] (was body) first) i) slot) (Some slot) }
 {
     let start = entries::place_at(places, first, i, 3);
     let size = entries::place_at(places, first, i, 4);
-    let Entry::Value(id) = entries::read_entry(body, start, size, 1, slot) else {
+    let Some(id) = entries::read_entry(body, start, size, 1, slot) else {
         return Step::Done(RowRead::Refused(12));
     };
     step_into(tree, i, id, slot)
@@ -95,12 +93,12 @@ pub fn step_dense(
 {
     let start = entries::place_at(places, first, i, 3);
     let size = entries::place_at(places, first, i, 4);
-    let Entry::Value(id) = entries::read_entry(body, start, size, 1, slot) else {
+    let Some(id) = entries::read_entry(body, start, size, 1, slot) else {
         return Step::Done(RowRead::Refused(12));
     };
     let from = entries::place_at(places, first, i, 5);
     let room = entries::place_at(places, first, i, 6);
-    let Entry::Value(row) = entries::read_entry(body, from, room, 4, slot) else {
+    let Some(row) = entries::read_entry(body, from, room, 4, slot) else {
         return Step::Done(RowRead::Refused(12));
     };
     step_into(tree, i, id, row)

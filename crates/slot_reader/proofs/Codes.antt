@@ -1,16 +1,16 @@
 -- What a node's code says of its kind. Assumes nothing.
-use mathlib.Core.Path.{◌≡◌, refl, ap, sym, subst, ◌∙◌}
+use mathlib.Core.Path.{◌≡◌, refl, ap, sym, ◌∙◌}
 use mathlib.Core.Bool.{Bool, true, false, cond, ◌&&◌}
 use mathlib.Core.Option.{none}
 use mathlib.Core.List.{List, []}
 use Prim.Native.Nat.{ℕ, zero, suc, ◌≤◌, ◌<◌}
 use native.Mathlib.Omega.{arith}
 use lib.Dec.{leb, eqb}
-use borrow.Author.Tests.{le-leb, lt-leb, leb-true, leb-false, eq-eqb, ne_eqb}
-use Rattle.columnar.specs.Types.{Number, width}
+use borrow.Author.Tests.{le-leb, lt-leb, leb-true, leb-false}
+use Rattle.columnar.specs.Types.{width}
 use Rattle.schema.specs.formats.Code.{between, last_code, is_fixed, is_string, is_view, is_list_view, is_list, is_union, is_sparse, is_run_end, width_of}
 use Rattle.schema.specs.formats.Types as types
-use Rattle.array_data.specs.NodeKinds.{NodeKind, fixed_node, string_node, view_node, list_view_node, list_node, sparse_node, dense_node, run_end_node, dictionary_node, kind_of}
+use Rattle.array_data.specs.NodeKinds.{string_node, view_node, list_view_node, list_node, run_end_node}
 use Rattle.array_data.proofs.type_tree.Shaped.{kind_fixed, kind_string, kind_view, kind_list, kind_lists, kind_union, kind_run, number_or_lem}
 use Rattle.array_data.proofs.lent_tables.Laws.{and_left, and_right}
 use Rattle.slot_reader.specs.leaf_row.Reading as leaf

@@ -2,18 +2,17 @@
 use mathlib.Core.Path.{◌≡◌, refl, ap, sym, subst, ◌∙◌}
 use mathlib.Core.Bool.{Bool, true, false, cond, ◌&&◌, and-false}
 use mathlib.Core.List.{List, []}
-use Prim.Native.Nat.{ℕ, zero, suc, ◌+◌, ◌*◌, ◌-◌, ◌^◌, ◌≤◌, ◌<◌}
+use Prim.Native.Nat.{ℕ, suc, ◌+◌, ◌*◌, ◌-◌, ◌^◌, ◌≤◌, ◌<◌}
 use native.Mathlib.Nat.{mul-le-mul_right, mul_comm, one-mul}
-use native.Mathlib.Numerals.{add-one}
 use native.Mathlib.Omega.{arith}
 use lib.ListN.{length, take, drop, get_or, length-take, length-drop}
-use lib.Dec.{leb, ltb, eqb}
+use lib.Dec.{eqb}
 use borrow.Author.Tests.{le-leb, lt-leb, lt-ltb, le-ltb, eq-eqb, ne_eqb}
 use Rattle.number.specs.Number.{number}
 use Rattle.columnar.specs.Types.{Number, width}
 use Rattle.columnar.specs.Array.{item}
 use Rattle.schema.specs.formats.Code.{is_fixed, is_string, is_view, is_list_view, is_list, width_of}
-use Rattle.array_data.specs.Tables.{Tables, part, length_of, offset_of, place, first_buffer, second_buffer}
+use Rattle.array_data.specs.Tables.{Tables, part, length_of, place, first_buffer, second_buffer}
 use Rattle.array_data.specs.NodeKinds.{NodeKind, string_node, view_node, list_view_node, list_node, run_end_node}
 use Rattle.slot_reader.specs.declared.leaf_row.Leaf.{Leaf}
 use Rattle.slot_reader.specs.leaf_row.Reading as leaf
@@ -22,39 +21,36 @@ use Rattle.slot_reader.specs.declared.view.Place.{Place}
 use Rattle.slot_reader.specs.declared.view.Place.TheVariants as seen
 use Rattle.array_data.specs.node_words.Words.{word}
 use Rattle.array_data.specs.entries.Entries.{holds, spot_in, sized, entry_in}
-use Rattle.array_data.specs.declared.entries.Spot.{Spot}
-use Rattle.array_data.specs.declared.entries.Spot.TheVariants as spot
-use Rattle.array_data.specs.declared.entries.Entry.{Entry}
-use Rattle.array_data.specs.declared.entries.Entry.TheVariants as entry
+use Rattle.std.specs.Prelude.{Some, None, Option}
 use Rattle.array_data.specs.declared.entries.Validity.{Validity}
 use Rattle.array_data.proofs.entries.Laws.{spot_at, spot_outside, holds_wide, inside, item_at}
 use Rattle.array_data.proofs.lent_tables.Laws.{and_right}
 use Rattle.slot_reader.specs.declared.RowRead.{RowRead}
 use Rattle.slot_reader.specs.declared.RowRead.TheVariants as row
-use Rattle.slot_reader.specs.Slots.{code_word, known, kind_word, code_number, number_read, stretch_in, both, string_read, data_place, viewed, view_at, list_view_read, rows_in, list_read, stored_number, stored_by, stored_at, entry_by, keyed, dictionary_read, fixed_read, slot_by, slot_read}
+use Rattle.slot_reader.specs.Slots.{code_word, known, kind_word, code_number, number_read, stretch_in, both, string_read, data_place, viewed, view_at, list_view_read, rows_in, list_read, stored_number, stored_by, entry_by, keyed, dictionary_read, fixed_read, slot_by, slot_read}
 use Rattle.slot_reader.proofs.Codes.{number_same, code_width_lem, range, knows, as_fixed, as_string, as_view, as_list_view, as_list, elsewhere}
 use Rattle.array_data.proofs.Names.{number_kind, union_kind}
 
 -- ---- numbers and stored numbers, by their place
 
-module _ (s : List ℕ) (start w i : ℕ) (r : Spot) (e : r ≡ spot_in start w s i) where
-  pub stored_out : r ≡ spot.Outside → row.Refused 12 ≡ stored_number start w s i
+module _ (s : List ℕ) (start w i : ℕ) (r : Option ℕ) (e : r ≡ spot_in start w s i) where
+  pub stored_out : r ≡ None → row.Refused 12 ≡ stored_number start w s i
   unfolding stored_number
   stored_out o = rw (spot_outside w s i start r e o)
 
-  pub stored_in : (at : ℕ) → r ≡ spot.At at → row.Bytes at w ≡ stored_number start w s i
+  pub stored_in : (at : ℕ) → r ≡ Some at → row.Bytes at w ≡ stored_number start w s i
   unfolding stored_number
   stored_in at a = let p = spot_at w s i start at r e a in rw (p.0, p.1)
 
-module _ (code start w i : ℕ) (low : 1 ≤ code) (high : code ≤ 10) (ew : w ≡ width_of code) (r : Spot) where
+module _ (code start w i : ℕ) (low : 1 ≤ code) (high : code ≤ 10) (ew : w ≡ width_of code) (r : Option ℕ) where
   pub wide : w ≡ width (code_number code)
   wide = ew ∙ code_width_lem code low high
 
-  pub number_out : (s : List ℕ) → r ≡ spot_in start w s i → r ≡ spot.Outside → row.Refused 12 ≡ number_read (code_number code) s i
+  pub number_out : (s : List ℕ) → r ≡ spot_in start w s i → r ≡ None → row.Refused 12 ≡ number_read (code_number code) s i
   unfolding number_read
   number_out s e o = rw (subst (λ v. holds v s i ≡ false) wide (spot_outside w s i start r e o))
 
-  module _ (body : List ℕ) (size at : ℕ) (e : r ≡ spot_in start w (part body start size) i) (a : r ≡ spot.At at) where
+  module _ (body : List ℕ) (size at : ℕ) (e : r ≡ spot_in start w (part body start size) i) (a : r ≡ Some at) where
     pub leaf_room : at + width (leaf.number_of code) ≤ length body
     leaf_room =
         let p = spot_at w (part body start size) i start at r e a in
@@ -105,40 +101,40 @@ rows_as j child m n a b p q = rw (p, q)
 
 -- ---- entries one after the other
 
-value_holds : (w : ℕ) (s : List ℕ) (i a : ℕ) (b : Bool) → cond b (entry.Value (item w s i)) entry.Outside ≡ entry.Value a → b ≡ true
+value_holds : (w : ℕ) (s : List ℕ) (i a : ℕ) (b : Bool) → cond b (Some (item w s i)) None ≡ Some a → b ≡ true
 value_holds w s i a true e = refl
-value_holds w s i a false e = let z : ◌≡◌ {A = ℕ} 0 1 = cc in absurd (omega arith)
+value_holds w s i a false e = absurd (cc)
 
 -- a slot that was read is below the body's length
-pub entry_small : (body : List ℕ) (start size w i a : ℕ) (r : Entry) → r ≡ entry_in w (part body start size) i → r ≡ entry.Value a → i < length body
+pub entry_small : (body : List ℕ) (start size w i a : ℕ) (r : Option ℕ) → r ≡ entry_in w (part body start size) i → r ≡ Some a → i < length body
 unfolding entry_in
 entry_small body start size w i a r e v =
     let h : holds w (part body start size) i ≡ true = and_right (sized w) _ (value_holds w (part body start size) i a (sized w && holds w (part body start size) i) (sym e ∙ v)) in
     let k : 1 * i ≤ w * i = mul-le-mul_right i (holds_wide w (part body start size) i h) in
     omega (arith, inside body start size w i h, holds_wide w (part body start size) i h, k, one-mul i, mul_comm w i)
 
-module _ (g : ℕ → ℕ → RowRead) (e f : Entry) where
-  pub both_first : e ≡ entry.Outside → row.Refused 12 ≡ both g e f
+module _ (g : ℕ → ℕ → RowRead) (e f : Option ℕ) where
+  pub both_first : e ≡ None → row.Refused 12 ≡ both g e f
   both_first p = ap (λ x. both g x f) (sym p)
 
-  pub both_second : (a : ℕ) → e ≡ entry.Value a → f ≡ entry.Outside → row.Refused 12 ≡ both g e f
+  pub both_second : (a : ℕ) → e ≡ Some a → f ≡ None → row.Refused 12 ≡ both g e f
   both_second a p q = rw (p, q)
 
-  pub both_held : (a b : ℕ) → e ≡ entry.Value a → f ≡ entry.Value b → g a b ≡ both g e f
+  pub both_held : (a b : ℕ) → e ≡ Some a → f ≡ Some b → g a b ≡ both g e f
   both_held a b p q = rw (p, q)
 
-module _ (off : ℕ) (f : ℕ → RowRead) (e : Entry) where
-  pub keyed_out : e ≡ entry.Outside → row.Refused 12 ≡ keyed off f e
+module _ (off : ℕ) (f : ℕ → RowRead) (e : Option ℕ) where
+  pub keyed_out : e ≡ None → row.Refused 12 ≡ keyed off f e
   keyed_out p = ap (keyed off f) (sym p)
 
-  pub keyed_over : (o key : ℕ) → o ≡ off → e ≡ entry.Value key → 2 ^ 64 ≤ o + key → row.Refused 12 ≡ keyed off f e
+  pub keyed_over : (o key : ℕ) → o ≡ off → e ≡ Some key → 2 ^ 64 ≤ o + key → row.Refused 12 ≡ keyed off f e
   keyed_over o key q p h = let g : 2 ^ 64 ≤ off + key = omega arith in rw (p, le-ltb (off + key) (2 ^ 64) g)
 
-  pub keyed_in : (o key : ℕ) → o ≡ off → e ≡ entry.Value key → o + key < 2 ^ 64 → f (o + key) ≡ keyed off f e
+  pub keyed_in : (o key : ℕ) → o ≡ off → e ≡ Some key → o + key < 2 ^ 64 → f (o + key) ≡ keyed off f e
   keyed_in o key q p h = let g : off + key < 2 ^ 64 = omega arith in rw (p, q, lt-ltb (off + key) (2 ^ 64) g)
 
 -- an entry by its bit v, where the key's entry is at `off + key`
-module _ (off o key : ℕ) (g : ℕ → Validity) (f : ℕ → RowRead) (e : Entry) (q : o ≡ off) (p : e ≡ entry.Value key) (h : o + key < 2 ^ 64) (v : Validity) (b : v ≡ g (o + key)) where
+module _ (off o key : ℕ) (g : ℕ → Validity) (f : ℕ → RowRead) (e : Option ℕ) (q : o ≡ off) (p : e ≡ Some key) (h : o + key < 2 ^ 64) (v : Validity) (b : v ≡ g (o + key)) where
   pub named : (u : Validity) → v ≡ u → entry_by u (f (o + key)) ≡ keyed off (λ k. entry_by (g k) (f k)) e
   named u t = ap (λ y. entry_by y (f (o + key))) (sym t ∙ b) ∙ keyed_in off (λ k. entry_by (g k) (f k)) e o key q p h
 
@@ -155,11 +151,11 @@ module _ (buffers : List ℕ) (a n b j m : ℕ) (e : m ≡ n) where
   pub some_data : (d r : ℕ) → d ≡ a → b < m → r ≡ get_or buffers (2 * (d + b) + j) 0 → r ≡ data_place buffers a n b j
   some_data d r f h q = let g : b < n = omega arith in rw (lt-ltb b n g, ← f) q
 
-module _ (body buffers : List ℕ) (a n : ℕ) (sp : Spot) where
-  pub view_out : sp ≡ spot.Outside → row.Refused 12 ≡ view_at body buffers a n sp
+module _ (body buffers : List ℕ) (a n : ℕ) (sp : Option ℕ) where
+  pub view_out : sp ≡ None → row.Refused 12 ≡ view_at body buffers a n sp
   view_out o = ap (view_at body buffers a n) (sym o)
 
-  pub view_in_lem : (at b from len : ℕ) (v : Place) → sp ≡ spot.At at → b ≡ number 4 (drop (at + 8) body) → from ≡ data_place buffers a n b 0
+  pub view_in_lem : (at b from len : ℕ) (v : Place) → sp ≡ Some at → b ≡ number 4 (drop (at + 8) body) → from ≡ data_place buffers a n b 0
       → len ≡ data_place buffers a n b 1 → v ≡ place_of body at (length body) from len → viewed v ≡ view_at body buffers a n sp
   view_in_lem at b from len v o eb ef el ev = rw (o, ev, ef, el, eb)
 

@@ -15,10 +15,7 @@ use Rattle.slot_reader.specs.declared.view.Place.{Place}
 use Rattle.slot_reader.specs.declared.view.Place.TheVariants as seen
 use Rattle.array_data.specs.node_words.Words.{word}
 use Rattle.array_data.specs.entries.Entries.{holds, spot_in, entry_in, valid_in}
-use Rattle.array_data.specs.declared.entries.Spot.{Spot}
-use Rattle.array_data.specs.declared.entries.Spot.TheVariants as spot
-use Rattle.array_data.specs.declared.entries.Entry.{Entry}
-use Rattle.array_data.specs.declared.entries.Entry.TheVariants as entry
+use Rattle.std.specs.Prelude.{Some, None, Option}
 use Rattle.array_data.specs.declared.entries.Validity.{Validity}
 use Rattle.array_data.specs.declared.entries.Validity.TheVariants as validity
 use Rattle.slot_reader.specs.declared.RowRead.{RowRead}
@@ -52,10 +49,10 @@ unfoldable pub stretch_in : ℕ → List ℕ → ℕ → ℕ → RowRead
 stretch_in start s a b = cond (leb a b && leb b (length s)) (row.Bytes (start + a) (b - a)) (row.Refused 12)
 
 -- what two entries say
-abbrev pub both : (ℕ → ℕ → RowRead) → Entry → Entry → RowRead
-both f (entry.Value a) (entry.Value b) = f a b
-both f (entry.Value a) entry.Outside = row.Refused 12
-both f entry.Outside e = row.Refused 12
+abbrev pub both : (ℕ → ℕ → RowRead) → Option ℕ → Option ℕ → RowRead
+both f (Some a) (Some b) = f a b
+both f (Some a) None = row.Refused 12
+both f None e = row.Refused 12
 
 -- from an offset to the next
 abbrev pub to_next : (ℕ → ℕ → RowRead) → ℕ → List ℕ → ℕ → RowRead
@@ -78,9 +75,9 @@ viewed seen.Outside = row.Refused 12
 abbrev pub view_in : List ℕ → List ℕ → ℕ → ℕ → ℕ → ℕ → RowRead
 view_in body buffers a n at b = viewed (place_of body at (length body) (data_place buffers a n b 0) (data_place buffers a n b 1))
 
-abbrev pub view_at : List ℕ → List ℕ → ℕ → ℕ → Spot → RowRead
-view_at body buffers a n (spot.At at) = view_in body buffers a n at (number 4 (drop (at + 8) body))
-view_at body buffers a n spot.Outside = row.Refused 12
+abbrev pub view_at : List ℕ → List ℕ → ℕ → ℕ → Option ℕ → RowRead
+view_at body buffers a n (Some at) = view_in body buffers a n at (number 4 (drop (at + 8) body))
+view_at body buffers a n None = row.Refused 12
 
 -- a list-view: where its rows begin in the child, and how many they are
 abbrev pub list_view_read : ℕ → List ℕ → List ℕ → ℕ → ℕ → RowRead
@@ -117,9 +114,9 @@ entry_by validity.Null r = row.Null
 entry_by validity.Outside r = row.Refused 12
 
 -- the entry that a key names, with the values' own offset added
-abbrev pub keyed : ℕ → (ℕ → RowRead) → Entry → RowRead
-keyed off f (entry.Value key) = cond (ltb (off + key) (2 ^ 64)) (f (off + key)) (row.Refused 12)
-keyed off f entry.Outside = row.Refused 12
+abbrev pub keyed : ℕ → (ℕ → RowRead) → Option ℕ → RowRead
+keyed off f (Some key) = cond (ltb (off + key) (2 ^ 64)) (f (off + key)) (row.Refused 12)
+keyed off f None = row.Refused 12
 
 -- ---- nodes
 

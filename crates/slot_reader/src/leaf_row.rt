@@ -9,6 +9,8 @@ ghost use Rattle.columnar.specs.Types.{width};
 ghost use Rattle.columnar.specs.Plain.{value};
 ghost use Rattle.slot_reader.specs.leaf_row.Reading.{number_of, single_of, double_of, leaf_of, leaf_row_of, key_of, key_of_whole};
 
+use number::{Signed, Unsigned};
+
 // An f32 or f64 has no bits of its own where it is a NaN: a NaN is read as its bits.
 #[derive(Clone, Copy)]
 pub enum Leaf {
@@ -58,16 +60,16 @@ pub fn read_leaf(body: &[u8], at: usize, code: u8) -> Leaf
     ensures result_value { leaf_row_of result ≡ value (number_of code) (number (width (number_of code)) (drop at (was body))) }
 {
     match code {
-        1 => Leaf::Signed(number::read_i8(body, at) as i64),
-        2 => Leaf::Unsigned(number::read_u8(body, at) as u64),
-        3 => Leaf::Signed(number::read_i16(body, at) as i64),
-        4 => Leaf::Unsigned(number::read_u16(body, at) as u64),
-        5 => Leaf::Signed(number::read_i32(body, at) as i64),
-        6 => Leaf::Unsigned(number::read_u32(body, at) as u64),
-        7 => Leaf::Signed(number::read_i64(body, at)),
-        8 => Leaf::Unsigned(number::read_u64(body, at)),
-        9 => single_of(number::read_u32(body, at)),
-        _ => double_of(number::read_u64(body, at)),
+        1 => Leaf::Signed(i8::read(body, at) as i64),
+        2 => Leaf::Unsigned(u8::read(body, at) as u64),
+        3 => Leaf::Signed(i16::read(body, at) as i64),
+        4 => Leaf::Unsigned(u16::read(body, at) as u64),
+        5 => Leaf::Signed(i32::read(body, at) as i64),
+        6 => Leaf::Unsigned(u32::read(body, at) as u64),
+        7 => Leaf::Signed(i64::read(body, at)),
+        8 => Leaf::Unsigned(u64::read(body, at)),
+        9 => single_of(u32::read(body, at)),
+        _ => double_of(u64::read(body, at)),
     }
 }
 

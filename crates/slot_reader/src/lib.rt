@@ -12,8 +12,9 @@ ghost use Rattle.array_data.specs.Tables.{part, length_of, place, first_buffer, 
 ghost use Rattle.array_data.specs.entries.Entries.{column, spot_in};
 ghost use Rattle.slot_reader.specs.Slots.{code_word, code_number, number_read, stretch_in, string_read, data_place, view_at, list_view_read, rows_in, list_read, stored_number, stored_at, dictionary_read, fixed_read, slot_read};
 
-use array_data::entries::{Entry, Spot, Validity};
+use array_data::entries::Validity;
 use array_data::{entries, lent_tables, node_words};
+use number::Unsigned;
 
 // A row: null, a number, bytes that stand in the body, or rows of a child; or the ground of refusal.
 #[derive(Clone, Copy)]
@@ -43,7 +44,7 @@ fn read_number(body: &[u8], start: u64, size: u64, code: u8, slot: u64) -> RowRe
     requires { (1 ≤ code) × (code ≤ 10) }
     ensures { result ≡ number_read (code_number code) (part (was body) start size) slot }
 {
-    let Spot::At(at) = entries::find_spot(body, start, size, schema::formats::width_of(code), slot)
+    let Some(at) = entries::find_spot(body, start, size, schema::formats::width_of(code), slot)
     else {
         return RowRead::Refused(12);
     };
@@ -73,10 +74,10 @@ fn read_string(places: &[u64], body: &[u8], first: u32, i: usize, w: u8, slot: u
 {
     let start = entries::place_at(places, first, i, 3);
     let size = entries::place_at(places, first, i, 4);
-    let Entry::Value(a) = entries::read_entry(body, start, size, w, slot) else {
+    let Some(a) = entries::read_entry(body, start, size, w, slot) else {
         return RowRead::Refused(12);
     };
-    let Entry::Value(b) = entries::read_entry(body, start, size, w, slot + 1) else {
+    let Some(b) = entries::read_entry(body, start, size, w, slot + 1) else {
         return RowRead::Refused(12);
     };
     let from = entries::place_at(places, first, i, 5);
@@ -109,10 +110,10 @@ fn read_view(
 {
     let start = entries::place_at(places, first, i, 3);
     let size = entries::place_at(places, first, i, 4);
-    let Spot::At(at) = entries::find_spot(body, start, size, 16, slot) else {
+    let Some(at) = entries::find_spot(body, start, size, 16, slot) else {
         return RowRead::Refused(12);
     };
-    let b = number::read_u32(body, at + 8);
+    let b = u32::read(body, at + 8);
     let from = data_place(places, buffers, first, i, b, 0) as usize;
     let len = data_place(places, buffers, first, i, b, 1) as usize;
     let shown = view::view_bytes(body, at, body, from, len);
@@ -136,12 +137,12 @@ fn read_list_view(places: &[u64], body: &[u8], first: u32, i: usize, w: u8, slot
 {
     let start = entries::place_at(places, first, i, 3);
     let size = entries::place_at(places, first, i, 4);
-    let Entry::Value(a) = entries::read_entry(body, start, size, w, slot) else {
+    let Some(a) = entries::read_entry(body, start, size, w, slot) else {
         return RowRead::Refused(12);
     };
     let from = entries::place_at(places, first, i, 5);
     let room = entries::place_at(places, first, i, 6);
-    let Entry::Value(n) = entries::read_entry(body, from, room, w, slot) else {
+    let Some(n) = entries::read_entry(body, from, room, w, slot) else {
         return RowRead::Refused(12);
     };
     RowRead::List {
@@ -183,10 +184,10 @@ fn read_list(
 {
     let start = entries::place_at(places, first, i, 3);
     let size = entries::place_at(places, first, i, 4);
-    let Entry::Value(from) = entries::read_entry(body, start, size, w, slot) else {
+    let Some(from) = entries::read_entry(body, start, size, w, slot) else {
         return RowRead::Refused(12);
     };
-    let Entry::Value(to) = entries::read_entry(body, start, size, w, slot + 1) else {
+    let Some(to) = entries::read_entry(body, start, size, w, slot + 1) else {
         return RowRead::Refused(12);
     };
     let rows = entries::length_at(lengths, first, i + 1);
@@ -199,7 +200,7 @@ fn read_list(
 fn read_fixed(body: &[u8], start: u64, size: u64, w: u8, slot: u64) -> RowRead
     ensures { result ≡ stored_number start w (part (was body) start size) slot }
 {
-    let Spot::At(at) = entries::find_spot(body, start, size, w, slot) else {
+    let Some(at) = entries::find_spot(body, start, size, w, slot) else {
         return RowRead::Refused(12);
     };
     RowRead::Bytes {
@@ -258,7 +259,7 @@ fn read_dictionary(
 {
     let start = entries::place_at(places, first, i, 3);
     let size = entries::place_at(places, first, i, 4);
-    let Entry::Value(key) = entries::read_entry(body, start, size, w, slot) else {
+    let Some(key) = entries::read_entry(body, start, size, w, slot) else {
         return RowRead::Refused(12);
     };
     let off = entries::offset_at(lengths, first, i + 1);

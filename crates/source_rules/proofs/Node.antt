@@ -17,8 +17,6 @@ use Rattle.schema.specs.formats.Code.{is_integer, is_fixed, is_string, is_view, 
 use Rattle.schema.specs.formats.Types.{number_of, number_or}
 use Rattle.schema.proofs.formats.Types.{number_width, fixed_number}
 use Rattle.schema.specs.union_ids.Ids.{answer_of, written}
-use Rattle.schema.specs.declared.union_ids.Ids.{Ids}
-use Rattle.schema.specs.declared.union_ids.Ids.TheVariants.{Count, Bad}
 use Rattle.schema.specs.Tree.{field, children, dictionary, below, bare, child_for_each, end_of, child_at, whole, code_of, ids_of, values_shape, leaf_shape, keys_shape, list_shape, union_shape, run_shape, shape, typed}
 use Rattle.schema.proofs.Trees.{child_inside}
 use Rattle.schema.proofs.Known.{typed_whole, typed_shape}

@@ -122,7 +122,7 @@ fn union_ok(
     let at = schema::get(schema, first + i, 0) as usize;
     let len = schema::get(schema, first + i, 1) as usize;
     let mut ids = [0u8; 16];
-    let union_ids::Ids::Count(count) = union_ids::union_ids(formats, at, len, &mut ids) else {
+    let Some(count) = union_ids::union_ids(formats, at, len, &mut ids) else {
         return false;
     };
     let m = count as usize;

@@ -36,14 +36,12 @@ use Rattle.array_data.proofs.type_tree.Shaped.{Shaped, of_plain_lem, of_view, of
 use Rattle.array_data.proofs.type_tree.Source.{lent_source}
 use Rattle.array_data.proofs.lent_tables.Laws.{and_left, and_right}
 use Rattle.array_data.specs.entries.Entries.{entry_in, valid_bit}
-use Rattle.array_data.specs.declared.entries.Entry.TheVariants as entry
 use Rattle.slot_reader.specs.declared.RowRead.{RowRead}
 use Rattle.slot_reader.specs.declared.RowRead.TheVariants as row
 use Rattle.slot_reader.specs.Slots.{known, kind_word, list_view_read, list_read, stored_by, entry_by, named_at, keyed, dictionary_read}
 use Rattle.array_data.specs.node_words.Words.{planted}
 use Rattle.row_reader.specs.declared.Step.{Step}
 use Rattle.row_reader.specs.declared.Step.TheVariants as step
-use Rattle.row_reader.specs.declared.Child.TheVariants as child
 use Rattle.row_reader.specs.Walk.{child_of, chosen, into, under_id, ran, run_of, runs_step, step_by, step_on, sighted, step_at, Walked, walked_to, under, follow, walk, is_refused, kept, row_at}
 use Rattle.row_reader.proofs.Laws.{at_slot}
 use Rattle.row_reader.specs.meaning.Meaning.{flat, meaning}
@@ -53,6 +51,7 @@ use Rattle.row_reader.proofs.meaning.Slots.{Gives, wide, number_sized, offset_si
 use Rattle.row_reader.proofs.meaning.Views.{view_gives}
 use Rattle.row_reader.proofs.meaning.Runs.{ran_is, ran_below}
 use Rattle.array_data.proofs.Names.{ids_or}
+use Rattle.std.specs.Prelude.{Some}
 
 is_true : (b : Bool) → T b → b ≡ true
 is_true true h = refl
@@ -177,10 +176,10 @@ module _ (formats schema : List ℕ) (first n : ℕ) (x : Tables) (t : typed for
     abbrev id : ℕ
     id = get_or (first_buffer x i) slot 0
 
-    id_entry : offset_of x i + length_of x i ≤ length (first_buffer x i) → entry_in 1 (first_buffer x i) slot ≡ entry.Value id
+    id_entry : offset_of x i + length_of x i ≤ length (first_buffer x i) → entry_in 1 (first_buffer x i) slot ≡ Some id
     id_entry h =
         entry_slot 1 (first_buffer x i) slot (offset_of x i + length_of x i) (omega arith) refl (omega (arith, mul-one (offset_of x i + length_of x i))) (omega arith)
-        ∙ ap entry.Value (item_one (first_buffer x i) slot (omega arith))
+        ∙ ap Some (item_one (first_buffer x i) slot (omega arith))
 
     goes_into : (ids : List ℕ) → Ids ids → ids_or (Rattle.schema.specs.Tree.ids_of formats schema first i) ≡ ids → below schema first i ≡ length ids → Memᴰ id ids → (m : ℕ)
         → into w i id m ≡ step.Choose id (node_of tree i ids id) m
@@ -193,8 +192,8 @@ module _ (formats schema : List ℕ) (first n : ℕ) (x : Tables) (t : typed for
     sparse_level : (ids : List ℕ) → kind_at formats schema first i ≡ sparse_node ids → below schema first i ≡ length ids → Ids ids → Level (sparse_node ids)
     sparse_level ids e many d s =
         let mem = s.slots.declared r q in
-        let z : under_id w i (entry_in 1 (first_buffer x i) slot) (entry.Value slot) ≡ step.Choose id (node_of tree i ids id) slot =
-        ap (λ a. under_id w i a (entry.Value slot)) (id_entry s.slots.hold) ∙ goes_into ids d (sparse_ids formats schema first n i ids e) many mem slot in
+        let z : under_id w i (entry_in 1 (first_buffer x i) slot) (Some slot) ≡ step.Choose id (node_of tree i ids id) slot =
+        ap (λ a. under_id w i a (Some slot)) (id_entry s.slots.hold) ∙ goes_into ids d (sparse_ids formats schema first n i ids e) many mem slot in
         let k = kid (node_of tree i ids id) (field_of ids id) (omega (arith, field_in_lem ids id mem)) (sym (child_same formats schema first n i (field_of ids id))) slot (s.slots.child_rule id mem) (omega (arith, s.slots.long id mem)) in
         subst (λ a. Shows (ty_as tree (ty_of tree f) (sparse_node ids) i) (follow (walk w x f) a) (slot_at (ty_as tree (ty_of tree f) (sparse_node ids) i) (body_of tree x (ty_as tree (ty_of tree f) (sparse_node ids) i) i) slot)) (sym z)
         (record { accepted = k.accepted; means = ap (union id) k.means })
@@ -205,7 +204,7 @@ module _ (formats schema : List ℕ) (first n : ℕ) (x : Tables) (t : typed for
         let at = item 4 (second_buffer x i) slot in
         let e2 = entry_slot 4 (second_buffer x i) slot (offset_of x i + length_of x i) (omega arith) refl s.slots.hold_positions (omega arith) in
         let z : under_id w i (entry_in 1 (first_buffer x i) slot) (entry_in 4 (second_buffer x i) slot) ≡ step.Choose id (node_of tree i ids id) at =
-        ap (λ a. under_id w i a (entry_in 4 (second_buffer x i) slot)) (id_entry s.slots.hold_ids) ∙ ap (under_id w i (entry.Value id)) e2 ∙ goes_into ids d (dense_ids formats schema first n i ids e) many mem at in
+        ap (λ a. under_id w i a (entry_in 4 (second_buffer x i) slot)) (id_entry s.slots.hold_ids) ∙ ap (under_id w i (Some id)) e2 ∙ goes_into ids d (dense_ids formats schema first n i ids e) many mem at in
         let k = kid (node_of tree i ids id) (field_of ids id) (omega (arith, field_in_lem ids id mem)) (sym (child_same formats schema first n i (field_of ids id))) at (s.slots.child_rule id mem) (s.slots.within r q) in
         subst (λ a. Shows (ty_as tree (ty_of tree f) (dense_node ids) i) (follow (walk w x f) a) (slot_at (ty_as tree (ty_of tree f) (dense_node ids) i) (body_of tree x (ty_as tree (ty_of tree f) (dense_node ids) i) i) slot)) (sym z)
         (record { accepted = k.accepted; means = ap (union id) k.means })

@@ -28,9 +28,6 @@ use Rattle.slot_reader.proofs.view.Laws.{inline, in_data, shows, view}
 use Rattle.array_data.specs.entries.Entries.{holds, spot_in, sized, entry_in, valid_bit, valid_in}
 use Rattle.array_data.specs.declared.entries.Validity.{Validity}
 use Rattle.array_data.specs.declared.entries.Validity.TheVariants as validity
-use Rattle.array_data.specs.declared.entries.Entry.{Entry}
-use Rattle.array_data.specs.declared.entries.Entry.TheVariants as entry
-use Rattle.array_data.specs.declared.entries.Spot.TheVariants as spot
 use Rattle.array_data.proofs.entries.Laws.{cut, holds_in, holds_end, spot_yes, entry_yes, part_end}
 use Rattle.slot_reader.specs.declared.RowRead.{RowRead}
 use Rattle.slot_reader.specs.declared.RowRead.TheVariants as row
@@ -38,6 +35,7 @@ use Rattle.slot_reader.specs.Slots.{number_read, stretch_in, string_read, list_r
 use Rattle.slot_reader.proofs.Laws.{stretch_in_lem, rows_in_lem}
 use Rattle.row_reader.specs.Walk.{is_refused}
 use Rattle.row_reader.specs.meaning.Meaning.{flat}
+use Rattle.std.specs.Prelude.{Some}
 
 -- the answer is no refusal, and stands for this row
 pub record Gives (body : List ℕ) (r : RowRead) (want : Row) : Type 0 where
@@ -83,7 +81,7 @@ offset_wide w eight = omega arith
 pub holds_slot : (w : ℕ) (s : List ℕ) (k n : ℕ) → 1 ≤ w → n * w ≤ length s → k < n → holds w s k ≡ true
 holds_slot w s k n a h l = let e : k * w + w ≤ n * w = entry_end w l in holds_in w s k a (omega arith)
 
-pub entry_slot : (w : ℕ) (s : List ℕ) (k n : ℕ) → 1 ≤ w → sized w ≡ true → n * w ≤ length s → k < n → entry_in w s k ≡ entry.Value (item w s k)
+pub entry_slot : (w : ℕ) (s : List ℕ) (k n : ℕ) → 1 ≤ w → sized w ≡ true → n * w ≤ length s → k < n → entry_in w s k ≡ Some (item w s k)
 entry_slot w s k n a z h l = sym (entry_yes w s k z (holds_slot w s k n a h l))
 
 -- ---- bytes of a buffer that is a part of the body
@@ -135,10 +133,10 @@ climbs f off len h i (suc d) l =
     omega (arith, ap f e, climbs f off len h i d (omega arith), h (i + d) (omega arith))
 
 module _ (w : ℕ) (s : List ℕ) (most off len r : ℕ) (ow : OffsetWidth w) (o : OffsetsTo w s most off len) (l : r < len) where
-  first_entry_lem : entry_in w s (off + r) ≡ entry.Value (item w s (off + r))
+  first_entry_lem : entry_in w s (off + r) ≡ Some (item w s (off + r))
   first_entry_lem = entry_slot w s (off + r) (off + len + 1) (offset_wide w ow) (offset_sized w ow) o.hold (omega arith)
 
-  next_entry : entry_in w s (suc (off + r)) ≡ entry.Value (item w s (suc (off + r)))
+  next_entry : entry_in w s (suc (off + r)) ≡ Some (item w s (suc (off + r)))
   next_entry = entry_slot w s (suc (off + r)) (off + len + 1) (offset_wide w ow) (offset_sized w ow) o.hold (omega arith)
 
   rises : item w s (off + r) ≤ item w s (suc (off + r))

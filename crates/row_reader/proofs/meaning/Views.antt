@@ -18,11 +18,11 @@ use Rattle.slot_reader.specs.declared.view.Place.{Place}
 use Rattle.slot_reader.specs.declared.view.Place.TheVariants as seen
 use Rattle.slot_reader.proofs.view.Laws.{inline, in_data, shows, view}
 use Rattle.array_data.specs.entries.Entries.{spot_in}
-use Rattle.array_data.specs.declared.entries.Spot.TheVariants as spot
 use Rattle.array_data.proofs.entries.Laws.{number_cut, spot_yes}
 use Rattle.slot_reader.specs.Slots.{data_place, viewed, view_at}
 use Rattle.row_reader.proofs.meaning.Child.{seg_at}
 use Rattle.row_reader.proofs.meaning.Slots.{Gives, holds_slot, part_of_lem}
+use Rattle.std.specs.Prelude.{Some}
 
 length_seg : {A : Type 0} (f : ℕ → A) (a n : ℕ) → length (seg f a n) ≡ n
 length_seg f a zero = refl
@@ -107,5 +107,5 @@ module _ (body buffers : List ℕ) (a n : ℕ) where
         let v : view body (start + k * 16) ≡ view_of s k = part_of_lem body start size (k * 16) 16 (omega arith) in
         let sp = spot_yes 16 s k start (holds_slot 16 s k m (omega arith) h l) in
         subst (λ q. Gives body (view_at body buffers a n q) (bytes (shown bufs (view_of s k)))) sp
-        (subst (λ q. Gives body (view_at body buffers a n (spot.At (start + k * 16))) (bytes (shown bufs q))) v
+        (subst (λ q. Gives body (view_at body buffers a n (Some (start + k * 16))) (bytes (shown bufs q))) v
         (placed (start + k * 16) (subst (ViewGood bufs) (sym v) good)))

@@ -22,7 +22,7 @@ returns-then-off-key c =
     let z = c.args in
     let y = column [] z.places.now [] z.body.now z.first in
     let s = part z.body.now c.place_at-start.result c.place_at-size.result in
-    rw (← c.place_at-start.ensures, ← c.place_at-size.ensures, ← add-one z.i) (keyed_over (offset_of (column z.lengths.now [] [] [] z.first) (z.i + 1)) (named_at z.tree.now y (z.i + 1)) (entry_in z.w s z.slot) _ _ c.offset_at-off.ensures (sym c.read_entry.ensures ∙ c.in-Value.is) (omega arith))
+    rw (← c.place_at-start.ensures, ← c.place_at-size.ensures, ← add-one z.i) (keyed_over (offset_of (column z.lengths.now [] [] [] z.first) (z.i + 1)) (named_at z.tree.now y (z.i + 1)) (entry_in z.w s z.slot) _ _ c.offset_at-off.ensures (sym c.read_entry.ensures ∙ c.in-Some.is) (omega arith))
 
 pub returns-in-Valid : goal.returns-in-Valid
 returns-in-Valid c =
@@ -30,7 +30,7 @@ returns-in-Valid c =
     let y = column [] z.places.now [] z.body.now z.first in
     let s = part z.body.now c.place_at-start.result c.place_at-size.result in
     let f = stored_at z.tree.now y (z.i + 1) in
-    rw (← c.place_at-start.ensures, ← c.place_at-size.ensures, ← add-one z.i) (c.read_stored.ensures ∙ named (offset_of (column z.lengths.now [] [] [] z.first) (z.i + 1)) c.offset_at-off.result _ (valid_in (valid_of y (z.i + 1))) f (entry_in z.w s z.slot) c.offset_at-off.ensures (sym c.read_entry.ensures ∙ c.in-Value.is) (omega arith) _ c.valid_at.ensures _ c.in-Valid.is)
+    rw (← c.place_at-start.ensures, ← c.place_at-size.ensures, ← add-one z.i) (c.read_stored.ensures ∙ named (offset_of (column z.lengths.now [] [] [] z.first) (z.i + 1)) c.offset_at-off.result _ (valid_in (valid_of y (z.i + 1))) f (entry_in z.w s z.slot) c.offset_at-off.ensures (sym c.read_entry.ensures ∙ c.in-Some.is) (omega arith) _ c.valid_at.ensures _ c.in-Valid.is)
 
 pub returns-in-Null : goal.returns-in-Null
 returns-in-Null c =
@@ -38,7 +38,7 @@ returns-in-Null c =
     let y = column [] z.places.now [] z.body.now z.first in
     let s = part z.body.now c.place_at-start.result c.place_at-size.result in
     let f = stored_at z.tree.now y (z.i + 1) in
-    rw (← c.place_at-start.ensures, ← c.place_at-size.ensures, ← add-one z.i) (named (offset_of (column z.lengths.now [] [] [] z.first) (z.i + 1)) c.offset_at-off.result _ (valid_in (valid_of y (z.i + 1))) f (entry_in z.w s z.slot) c.offset_at-off.ensures (sym c.read_entry.ensures ∙ c.in-Value.is) (omega arith) _ c.valid_at.ensures _ c.in-Null.is)
+    rw (← c.place_at-start.ensures, ← c.place_at-size.ensures, ← add-one z.i) (named (offset_of (column z.lengths.now [] [] [] z.first) (z.i + 1)) c.offset_at-off.result _ (valid_in (valid_of y (z.i + 1))) f (entry_in z.w s z.slot) c.offset_at-off.ensures (sym c.read_entry.ensures ∙ c.in-Some.is) (omega arith) _ c.valid_at.ensures _ c.in-Null.is)
 
 pub returns-in-Outside : goal.returns-in-Outside
 returns-in-Outside c =
@@ -46,4 +46,4 @@ returns-in-Outside c =
     let y = column [] z.places.now [] z.body.now z.first in
     let s = part z.body.now c.place_at-start.result c.place_at-size.result in
     let f = stored_at z.tree.now y (z.i + 1) in
-    rw (← c.place_at-start.ensures, ← c.place_at-size.ensures, ← add-one z.i) (named (offset_of (column z.lengths.now [] [] [] z.first) (z.i + 1)) c.offset_at-off.result _ (valid_in (valid_of y (z.i + 1))) f (entry_in z.w s z.slot) c.offset_at-off.ensures (sym c.read_entry.ensures ∙ c.in-Value.is) (omega arith) _ c.valid_at.ensures _ c.in-Outside.is)
+    rw (← c.place_at-start.ensures, ← c.place_at-size.ensures, ← add-one z.i) (named (offset_of (column z.lengths.now [] [] [] z.first) (z.i + 1)) c.offset_at-off.result _ (valid_in (valid_of y (z.i + 1))) f (entry_in z.w s z.slot) c.offset_at-off.ensures (sym c.read_entry.ensures ∙ c.in-Some.is) (omega arith) _ c.valid_at.ensures _ c.in-Outside.is)

@@ -11,4 +11,4 @@ returns-in_default c =
 pub returns : goal.returns
 returns c =
     let z = c.args in
-    stored_in (part z.body.now z.start z.size) z.start z.w z.slot _ c.find_spot.ensures _ c.in-At.is
+    stored_in (part z.body.now z.start z.size) z.start z.w z.slot _ c.find_spot.ensures _ c.in-Some.is

@@ -11,9 +11,9 @@ returns-in_default c =
 pub read_leaf-requires : goal.read_leaf-requires
 read_leaf-requires c =
     let z = c.args in
-    record { le_code = c.requires; code_in_bounds = leaf_room z.code z.start _ z.slot c.requires.0 c.requires.1 c.width_of.ensures _ z.body.now z.size _ c.find_spot.ensures c.in-At.is }
+    record { le_code = c.requires; code_in_bounds = leaf_room z.code z.start _ z.slot c.requires.0 c.requires.1 c.width_of.ensures _ z.body.now z.size _ c.find_spot.ensures c.in-Some.is }
 
 pub returns : goal.returns
 returns c =
     let z = c.args in
-    number_in z.code z.start _ z.slot c.requires.0 c.requires.1 c.width_of.ensures _ z.body.now z.size _ c.find_spot.ensures c.in-At.is _ c.read_leaf.ensures.value
+    number_in z.code z.start _ z.slot c.requires.0 c.requires.1 c.width_of.ensures _ z.body.now z.size _ c.find_spot.ensures c.in-Some.is _ c.read_leaf.ensures.value

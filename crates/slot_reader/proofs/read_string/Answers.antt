@@ -18,16 +18,16 @@ returns-in_default c =
 pub overflow_add-slot : goal.overflow_add-slot
 overflow_add-slot c =
     let z = c.args in
-    omega (arith, entry_small z.body.now c.place_at-start.result c.place_at-size.result z.w z.slot _ _ c.read_entry.ensures c.in-Value.is)
+    omega (arith, entry_small z.body.now c.place_at-start.result c.place_at-size.result z.w z.slot _ _ c.read_entry.ensures c.in-Some.is)
 
 pub returns-in_default-read_entry : goal.returns-in_default-read_entry
 returns-in_default-read_entry c =
     let z = c.args in
     let s = part z.body.now c.place_at-start.result c.place_at-size.result in
-    rw (← c.place_at-start.ensures, ← c.place_at-size.ensures) (both_second _ (entry_in z.w s z.slot) (entry_in z.w s (suc z.slot)) _ (sym c.read_entry.ensures ∙ c.in-Value.is) (ap (entry_in z.w s) (sym (add-one z.slot)) ∙ sym c.read_entry-2.ensures ∙ c.in_default-read_entry.is))
+    rw (← c.place_at-start.ensures, ← c.place_at-size.ensures) (both_second _ (entry_in z.w s z.slot) (entry_in z.w s (suc z.slot)) _ (sym c.read_entry.ensures ∙ c.in-Some.is) (ap (entry_in z.w s) (sym (add-one z.slot)) ∙ sym c.read_entry-2.ensures ∙ c.in_default-read_entry.is))
 
 pub returns : goal.returns
 returns c =
     let z = c.args in
     let s = part z.body.now c.place_at-start.result c.place_at-size.result in
-    rw (← c.place_at-start.ensures, ← c.place_at-size.ensures, ← c.place_at-from.ensures, ← c.place_at-len.ensures) (c.read_stretch.ensures ∙ both_held (stretch_in c.place_at-from.result (part z.body.now c.place_at-from.result c.place_at-len.result)) (entry_in z.w s z.slot) (entry_in z.w s (suc z.slot)) _ _ (sym c.read_entry.ensures ∙ c.in-Value.is) (ap (entry_in z.w s) (sym (add-one z.slot)) ∙ sym c.read_entry-2.ensures ∙ c.in-Value-read_entry.is))
+    rw (← c.place_at-start.ensures, ← c.place_at-size.ensures, ← c.place_at-from.ensures, ← c.place_at-len.ensures) (c.read_stretch.ensures ∙ both_held (stretch_in c.place_at-from.result (part z.body.now c.place_at-from.result c.place_at-len.result)) (entry_in z.w s z.slot) (entry_in z.w s (suc z.slot)) _ _ (sym c.read_entry.ensures ∙ c.in-Some.is) (ap (entry_in z.w s) (sym (add-one z.slot)) ∙ sym c.read_entry-2.ensures ∙ c.in-Some-read_entry.is))

@@ -20,40 +20,40 @@ returns-in_default c =
 pub overflow_add-at : goal.overflow_add-at
 overflow_add-at c =
     let z = c.args in
-    omega (arith, room z.body.now c.place_at-start.result c.place_at-size.result 16 z.slot _ _ c.find_spot.ensures c.in-At.is)
+    omega (arith, room z.body.now c.place_at-start.result c.place_at-size.result 16 z.slot _ _ c.find_spot.ensures c.in-Some.is)
 
-pub read_u32-b-requires : goal.read_u32-b-requires
-read_u32-b-requires c =
+pub read-b-requires : goal.read-b-requires
+read-b-requires c =
     let z = c.args in
-    omega (arith, room z.body.now c.place_at-start.result c.place_at-size.result 16 z.slot _ _ c.find_spot.ensures c.in-At.is)
+    omega (arith, room z.body.now c.place_at-start.result c.place_at-size.result 16 z.slot _ _ c.find_spot.ensures c.in-Some.is)
 
 pub view_bytes-shown-requires : goal.view_bytes-shown-requires
 view_bytes-shown-requires c =
     let z = c.args in
-    omega (arith, room z.body.now c.place_at-start.result c.place_at-size.result 16 z.slot _ _ c.find_spot.ensures c.in-At.is)
+    omega (arith, room z.body.now c.place_at-start.result c.place_at-size.result 16 z.slot _ _ c.find_spot.ensures c.in-Some.is)
 
 pub view_place-requires : goal.view_place-requires
 view_place-requires c =
     let z = c.args in
-    omega (arith, room z.body.now c.place_at-start.result c.place_at-size.result 16 z.slot _ _ c.find_spot.ensures c.in-At.is)
+    omega (arith, room z.body.now c.place_at-start.result c.place_at-size.result 16 z.slot _ _ c.find_spot.ensures c.in-Some.is)
 
 pub returns-in-Inline : goal.returns-in-Inline
 returns-in-Inline c =
     let z = c.args in
     let p = column [] z.places.now [] [] z.first in
     let s = part z.body.now c.place_at-start.result c.place_at-size.result in
-    rw (← c.place_at-start.ensures, ← c.place_at-size.ensures) (bytes_inline z.body.now _ c.view_place.ensures.within _ (c.view_bytes-shown.ensures ∙ ap (part_of z.body.now z.body.now) (sym c.view_place.ensures.value)) _ _ c.in-Inline.is ∙ view_in_lem z.body.now z.buffers.now (place p z.i 7) (place p z.i 8) (spot_in c.place_at-start.result 16 s z.slot) _ _ _ _ _ (sym c.find_spot.ensures ∙ c.in-At.is) c.read_u32-b.ensures c.data_place-from.ensures c.data_place-len.ensures c.view_place.ensures.value)
+    rw (← c.place_at-start.ensures, ← c.place_at-size.ensures) (bytes_inline z.body.now _ c.view_place.ensures.within _ (c.view_bytes-shown.ensures ∙ ap (part_of z.body.now z.body.now) (sym c.view_place.ensures.value)) _ _ c.in-Inline.is ∙ view_in_lem z.body.now z.buffers.now (place p z.i 7) (place p z.i 8) (spot_in c.place_at-start.result 16 s z.slot) _ _ _ _ _ (sym c.find_spot.ensures ∙ c.in-Some.is) c.read-b.ensures c.data_place-from.ensures c.data_place-len.ensures c.view_place.ensures.value)
 
 pub returns-in-Data : goal.returns-in-Data
 returns-in-Data c =
     let z = c.args in
     let p = column [] z.places.now [] [] z.first in
     let s = part z.body.now c.place_at-start.result c.place_at-size.result in
-    rw (← c.place_at-start.ensures, ← c.place_at-size.ensures) (bytes_data z.body.now _ c.view_place.ensures.within _ (c.view_bytes-shown.ensures ∙ ap (part_of z.body.now z.body.now) (sym c.view_place.ensures.value)) _ _ c.in-Data.is ∙ view_in_lem z.body.now z.buffers.now (place p z.i 7) (place p z.i 8) (spot_in c.place_at-start.result 16 s z.slot) _ _ _ _ _ (sym c.find_spot.ensures ∙ c.in-At.is) c.read_u32-b.ensures c.data_place-from.ensures c.data_place-len.ensures c.view_place.ensures.value)
+    rw (← c.place_at-start.ensures, ← c.place_at-size.ensures) (bytes_data z.body.now _ c.view_place.ensures.within _ (c.view_bytes-shown.ensures ∙ ap (part_of z.body.now z.body.now) (sym c.view_place.ensures.value)) _ _ c.in-Data.is ∙ view_in_lem z.body.now z.buffers.now (place p z.i 7) (place p z.i 8) (spot_in c.place_at-start.result 16 s z.slot) _ _ _ _ _ (sym c.find_spot.ensures ∙ c.in-Some.is) c.read-b.ensures c.data_place-from.ensures c.data_place-len.ensures c.view_place.ensures.value)
 
 pub returns-in-Outside : goal.returns-in-Outside
 returns-in-Outside c =
     let z = c.args in
     let p = column [] z.places.now [] [] z.first in
     let s = part z.body.now c.place_at-start.result c.place_at-size.result in
-    rw (← c.place_at-start.ensures, ← c.place_at-size.ensures) (ap viewed (sym c.in-Outside.is) ∙ view_in_lem z.body.now z.buffers.now (place p z.i 7) (place p z.i 8) (spot_in c.place_at-start.result 16 s z.slot) _ _ _ _ _ (sym c.find_spot.ensures ∙ c.in-At.is) c.read_u32-b.ensures c.data_place-from.ensures c.data_place-len.ensures c.view_place.ensures.value)
+    rw (← c.place_at-start.ensures, ← c.place_at-size.ensures) (ap viewed (sym c.in-Outside.is) ∙ view_in_lem z.body.now z.buffers.now (place p z.i 7) (place p z.i 8) (spot_in c.place_at-start.result 16 s z.slot) _ _ _ _ _ (sym c.find_spot.ensures ∙ c.in-Some.is) c.read-b.ensures c.data_place-from.ensures c.data_place-len.ensures c.view_place.ensures.value)

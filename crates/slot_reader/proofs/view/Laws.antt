@@ -1,5 +1,5 @@
 -- The cases of `place_of`, and that the part is what the format shows. Assumes nothing.
-use mathlib.Core.Path.{◌≡◌, refl, sym, ap, subst, ◌∙◌}
+use mathlib.Core.Path.{◌≡◌, refl, sym, ap, ◌∙◌}
 use mathlib.Core.Bool.{Bool, true, false}
 use mathlib.Core.List.{List, [], ◌∷◌}
 use Prim.Native.Nat.{ℕ, zero, suc, ◌+◌, ◌≤◌, ◌<◌}
@@ -9,9 +9,8 @@ use lib.Seq.{drop-drop, take-take}
 use lib.Dec.{leb}
 use borrow.Author.Tests.{le-leb, lt-leb, leb-true, leb-false}
 use Rattle.number.specs.Number.{number}
-use Rattle.columnar.specs.View.{shown, length_of, buffer_of, offset_of, ViewGood, Lies}
+use Rattle.columnar.specs.View.{shown, length_of, buffer_of, offset_of, ViewGood}
 use Rattle.columnar.proofs.Items.{number_take}
-use Rattle.slot_reader.specs.declared.view.Place.{Place}
 use Rattle.slot_reader.specs.declared.view.Place.TheVariants.{Inline, Data, Outside}
 use Rattle.slot_reader.specs.view.Place.{length_at, offset_at, place_of, part_of}
 

@@ -16,11 +16,11 @@ returns-in_default-read_entry c =
     let z = c.args in
     let s = part z.body.now c.place_at-start.result c.place_at-size.result in
     let t = part z.body.now c.place_at-from.result c.place_at-room.result in
-    rw (← c.place_at-start.ensures, ← c.place_at-size.ensures, ← c.place_at-from.ensures, ← c.place_at-room.ensures) (no_row z.tree.now z.i (entry_in 1 s z.slot) (entry_in 4 t z.slot) _ (sym c.read_entry.ensures ∙ c.in-Value.is) (sym c.read_entry-2.ensures ∙ c.in_default-read_entry.is))
+    rw (← c.place_at-start.ensures, ← c.place_at-size.ensures, ← c.place_at-from.ensures, ← c.place_at-room.ensures) (no_row z.tree.now z.i (entry_in 1 s z.slot) (entry_in 4 t z.slot) _ (sym c.read_entry.ensures ∙ c.in-Some.is) (sym c.read_entry-2.ensures ∙ c.in_default-read_entry.is))
 
 pub returns : goal.returns
 returns c =
     let z = c.args in
     let s = part z.body.now c.place_at-start.result c.place_at-size.result in
     let t = part z.body.now c.place_at-from.result c.place_at-room.result in
-    rw (← c.place_at-start.ensures, ← c.place_at-size.ensures, ← c.place_at-from.ensures, ← c.place_at-room.ensures) (c.step_into.ensures ∙ both_held z.tree.now z.i (entry_in 1 s z.slot) (entry_in 4 t z.slot) _ _ (sym c.read_entry.ensures ∙ c.in-Value.is) (sym c.read_entry-2.ensures ∙ c.in-Value-read_entry.is))
+    rw (← c.place_at-start.ensures, ← c.place_at-size.ensures, ← c.place_at-from.ensures, ← c.place_at-room.ensures) (c.step_into.ensures ∙ both_held z.tree.now z.i (entry_in 1 s z.slot) (entry_in 4 t z.slot) _ _ (sym c.read_entry.ensures ∙ c.in-Some.is) (sym c.read_entry-2.ensures ∙ c.in-Some-read_entry.is))

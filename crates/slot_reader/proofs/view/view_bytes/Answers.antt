@@ -1,9 +1,7 @@
 -- `view_row::view_bytes` meets its contract: each arm knows the place that `view_place` answered, and that it lies within. Assumes nothing.
 use mathlib.Core.Path.{sym, ap, subst, ◌∙◌}
-use Prim.Native.Nat.{◌+◌, ◌≤◌}
 use native.Mathlib.Omega.{arith}
 use native.Mathlib.Nat.{add-sub_cancel_left}
-use lib.ListN.{length}
 use Rattle.slot_reader.specs.view.Place.{part_of, Within}
 use Rattle.slot_reader.proofs.view.view_bytes.Goals as goal
 
