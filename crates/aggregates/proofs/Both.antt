@@ -1,4 +1,5 @@
 -- The tallies of two accepted whole-number columns are those of the rows that both have. Assumes nothing.
+use Rattle.std.specs.Prelude.{Ok, Err}
 use Rattle.std.proofs.Common.{◌≡◌, ℕ, ◌+◌, ◌-◌, ◌^◌, ◌<◌, ◌≤◌, Bool, true, false, cond, not, ◌&&◌, eqb, List, ℤ, pos, negsuc, sym, refl, ap, ◌∙◌, subst, ap₂, arith, eq-eqb, ne_eqb}
 use mathlib.Core.Bool.{false≢true}
 use Rattle.columnar.specs.Row.{Row, null, whole, single, double, bytes, list, union, seg}
@@ -15,7 +16,6 @@ use Rattle.aggregates.specs.tally.Cells.{cell_of, tallied_by, Tallied}
 use Rattle.aggregates.proofs.tally.Sums.{hi_low, counted, summed}
 use Rattle.aggregates.specs.patterns.Parts.{Sized}
 use Rattle.aggregates.specs.cell_sums.Numbers.{mask_cell, both_cells}
-use Rattle.aggregates.specs.declared.RatioAnswer.TheVariants as ratio
 use Rattle.aggregates.specs.Report.{whole_type, beside, both_rows, is_zero, ratio_by, ratio_rows, row_of, pair_of, ratio_report}
 use Rattle.aggregates.proofs.Tallies.{above, few}
 
@@ -64,20 +64,20 @@ both_yes : (a b : Bool) → a ≡ true → b ≡ true → a && b ≡ true
 both_yes a b p q = rw (p, q)
 
 module _ (count : ℕ) (y z : ℤ) where
-  pub ratio_first : fits y ≡ false → ratio.Refused 15 ≡ ratio_by count y z
+  pub ratio_first : fits y ≡ false → Err 15 ≡ ratio_by count y z
   unfolding ratio_by
   ratio_first h = rw (and_left_no (fits y) (fits z) h)
 
-  pub ratio_second : fits z ≡ false → ratio.Refused 15 ≡ ratio_by count y z
+  pub ratio_second : fits z ≡ false → Err 15 ≡ ratio_by count y z
   unfolding ratio_by
   ratio_second h = rw (and_right_no (fits y) (fits z) h)
 
-  pub ratio_none : fits y ≡ true → fits z ≡ true → is_zero z ≡ true → ratio.Refused 16 ≡ ratio_by count y z
+  pub ratio_none : fits y ≡ true → fits z ≡ true → is_zero z ≡ true → Err 16 ≡ ratio_by count y z
   unfolding ratio_by
   ratio_none p q h = rw (both_yes (fits y) (fits z) p q, h)
 
   pub ratio_done : fits y ≡ true → fits z ≡ true → is_zero z ≡ false → (y' z' : ℤ) → y' ≡ y → z' ≡ z → (f : Fraction) → f ≡ fraction_of y z
-      → ratio.Done (record { count = count; first = y'; second = z'; minus = f.minus; over = f.over; under = f.under }) ≡ ratio_by count y z
+      → Ok (record { count = count; first = y'; second = z'; minus = f.minus; over = f.over; under = f.under }) ≡ ratio_by count y z
   unfolding ratio_by
   ratio_done p q h y' z' e d f i = rw (both_yes (fits y) (fits z) p q, h, e, d, i)
 
@@ -86,26 +86,26 @@ zero_test (pos n) h = ne_eqb n 0 (λ e. h (ap pos e))
 zero_test (negsuc n) h = refl
 
 module _ (formats schema : List ℕ) (x : Tables) (a n b m start end : ℕ) where
-  pub ratio_ground_lem : (g : ℕ) → g ≡ pair_of formats schema x a n b m → (g ≡ 0 → ⊥) → ratio.Refused g ≡ ratio_report formats schema x a n b m start end
+  pub ratio_ground_lem : (g : ℕ) → g ≡ pair_of formats schema x a n b m → (g ≡ 0 → ⊥) → Err g ≡ ratio_report formats schema x a n b m start end
   unfolding ratio_report
   ratio_ground_lem g e h = rw (ne_eqb (pair_of formats schema x a n b m) 0 (λ q. h (e ∙ q)), e)
 
   module _ (g : pair_of formats schema x a n b m ≡ 0) where
-    pub ratio_range_a : range_in x a start end ≡ false → ratio.Refused 2 ≡ ratio_report formats schema x a n b m start end
+    pub ratio_range_a : range_in x a start end ≡ false → Err 2 ≡ ratio_report formats schema x a n b m start end
     unfolding ratio_report
     ratio_range_a r = rw (eq-eqb (pair_of formats schema x a n b m) 0 g, and_left_no (range_in x a start end) (range_in x b start end) r)
 
-    pub ratio_range_b : range_in x b start end ≡ false → ratio.Refused 2 ≡ ratio_report formats schema x a n b m start end
+    pub ratio_range_b : range_in x b start end ≡ false → Err 2 ≡ ratio_report formats schema x a n b m start end
     unfolding ratio_report
     ratio_range_b r = rw (eq-eqb (pair_of formats schema x a n b m) 0 g, and_right_no (range_in x a start end) (range_in x b start end) r)
 
     module _ (r : range_in x a start end ≡ true) (s : range_in x b start end ≡ true) where
-      pub ratio_type_a : whole_type (type_of formats schema a n) ≡ false → ratio.Refused 10 ≡ ratio_report formats schema x a n b m start end
+      pub ratio_type_a : whole_type (type_of formats schema a n) ≡ false → Err 10 ≡ ratio_report formats schema x a n b m start end
       unfolding ratio_report
       ratio_type_a w =
           rw (eq-eqb (pair_of formats schema x a n b m) 0 g, both_yes (range_in x a start end) (range_in x b start end) r s, and_left_no (whole_type (type_of formats schema a n)) (whole_type (type_of formats schema b m)) w)
 
-      pub ratio_type_b : whole_type (type_of formats schema b m) ≡ false → ratio.Refused 10 ≡ ratio_report formats schema x a n b m start end
+      pub ratio_type_b : whole_type (type_of formats schema b m) ≡ false → Err 10 ≡ ratio_report formats schema x a n b m start end
       unfolding ratio_report
       ratio_type_b w =
           rw (eq-eqb (pair_of formats schema x a n b m) 0 g, both_yes (range_in x a start end) (range_in x b start end) r s, and_right_no (whole_type (type_of formats schema a n)) (whole_type (type_of formats schema b m)) w)

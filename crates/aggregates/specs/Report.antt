@@ -1,6 +1,6 @@
 -- W8, "for a whole-number column and a row range, the count of rows that aren't null, their exact sum, and the mean as a fraction in lowest
 -- terms": over rows as crate `columnar` reads them of the lent column, so that runs and offsets are no part of what is asked. Assumes nothing.
-use Rattle.std.specs.Prelude.{ℕ, ◌-◌, Bool, false, cond, ◌&&◌, List, ℤ, pos, negsuc, ◌==◌}
+use Rattle.std.specs.Prelude.{ℕ, ◌-◌, Bool, false, cond, ◌&&◌, List, ℤ, pos, negsuc, ◌==◌, Result, Ok, Err}
 use Rattle.columnar.specs.Row.{Row, null, whole, single, double, bytes, list, union, seg}
 use Rattle.columnar.specs.Types.{fixed, string, Ty, t_plain, t_view, t_list_view, t_list, t_sparse, t_dense, t_run_end, t_dictionary}
 use Rattle.columnar.specs.Wider.{integer}
@@ -13,11 +13,7 @@ use Rattle.columns.specs.column_pair.Pair.{pair_ground, range_in}
 use Rattle.aggregates.specs.fractions.Lowest.{fraction_of}
 use Rattle.aggregates.specs.tally.Sums.{count_of, sum_of, fits}
 use Rattle.aggregates.specs.declared.MeanReport.{MeanReport}
-use Rattle.aggregates.specs.declared.MeanAnswer.{MeanAnswer}
-use Rattle.aggregates.specs.declared.MeanAnswer.TheVariants as mean
 use Rattle.aggregates.specs.declared.RatioReport.{RatioReport}
-use Rattle.aggregates.specs.declared.RatioAnswer.{RatioAnswer}
-use Rattle.aggregates.specs.declared.RatioAnswer.TheVariants as ratio
 
 -- c C s S i I l L, without a dictionary
 abbrev pub whole_plain : Ty → Bool
@@ -55,11 +51,11 @@ report_of count sum =
     }
 
 -- "with 15 an exact sum outside −2^63 to 2^63−1, and with 16 a zero denominator, in that order"
-unfoldable pub mean_by : ℕ → ℤ → MeanAnswer
-mean_by count sum = cond (fits sum) (cond (count == 0) (mean.Refused 16) (mean.Done (report_of count sum))) (mean.Refused 15)
+unfoldable pub mean_by : ℕ → ℤ → Result MeanReport ℕ
+mean_by count sum = cond (fits sum) (cond (count == 0) (Err 16) (Ok (report_of count sum))) (Err 15)
 
 -- of rows
-abbrev pub mean_of : List Row → MeanAnswer
+abbrev pub mean_of : List Row → Result MeanReport ℕ
 mean_of rows = mean_by (count_of rows) (sum_of rows)
 
 module _ (formats schema : List ℕ) (x : Tables) (first n : ℕ) where
@@ -68,15 +64,15 @@ module _ (formats schema : List ℕ) (x : Tables) (first n : ℕ) where
   row_of r = read (type_of formats schema first n) (column_of (tree_of formats schema first n) (tables_from x first) (type_of formats schema first n) 0) r
 
   -- THE MEAN of the rows start .. end - 1: 9, 10 and 12 of the column, then 2, 10, 15 and 16
-  unfoldable pub mean_report : ℕ → ℕ → MeanAnswer
+  unfoldable pub mean_report : ℕ → ℕ → Result MeanReport ℕ
   mean_report start end =
       cond (column_ground formats schema x first n == 0)
       (cond (range_in x first start end)
       (cond (whole_type (type_of formats schema first n))
       (mean_of (seg row_of start (end - start)))
-      (mean.Refused 10))
-      (mean.Refused 2))
-      (mean.Refused (column_ground formats schema x first n))
+      (Err 10))
+      (Err 2))
+      (Err (column_ground formats schema x first n))
 
 -- ---- two columns
 
@@ -110,12 +106,12 @@ ratio_of count first second =
     }
 
 -- 15 of either sum, then 16
-unfoldable pub ratio_by : ℕ → ℤ → ℤ → RatioAnswer
+unfoldable pub ratio_by : ℕ → ℤ → ℤ → Result RatioReport ℕ
 ratio_by count first second =
-    cond (fits first && fits second) (cond (is_zero second) (ratio.Refused 16) (ratio.Done (ratio_of count first second))) (ratio.Refused 15)
+    cond (fits first && fits second) (cond (is_zero second) (Err 16) (Ok (ratio_of count first second))) (Err 15)
 
 -- of the rows that both have
-abbrev pub ratio_rows : (ℕ → Row) → (ℕ → Row) → ℕ → ℕ → RatioAnswer
+abbrev pub ratio_rows : (ℕ → Row) → (ℕ → Row) → ℕ → ℕ → Result RatioReport ℕ
 ratio_rows f g a n = ratio_by (count_of (seg (both_rows f g) a n)) (sum_of (seg (both_rows f g) a n)) (sum_of (seg (both_rows g f) a n))
 
 module _ (formats schema : List ℕ) (x : Tables) (a n b m : ℕ) where
@@ -123,12 +119,12 @@ module _ (formats schema : List ℕ) (x : Tables) (a n b m : ℕ) where
   pair_of = pair_ground (column_ground formats schema x a n) (column_ground formats schema x b m)
 
   -- TOTAL OVER TOTAL: "each ground is asked of both before the next"
-  unfoldable pub ratio_report : ℕ → ℕ → RatioAnswer
+  unfoldable pub ratio_report : ℕ → ℕ → Result RatioReport ℕ
   ratio_report start end =
       cond (pair_of == 0)
       (cond (range_in x a start end && range_in x b start end)
       (cond (whole_type (type_of formats schema a n) && whole_type (type_of formats schema b m))
       (ratio_rows (row_of formats schema x a n) (row_of formats schema x b m) start (end - start))
-      (ratio.Refused 10))
-      (ratio.Refused 2))
-      (ratio.Refused pair_of)
+      (Err 10))
+      (Err 2))
+      (Err pair_of)

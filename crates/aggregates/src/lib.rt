@@ -22,7 +22,7 @@ ghost use Rattle.aggregates.specs.Report.{mean_by, mean_report, ratio_by, ratio_
 
 use crate::cell_sums::Numbers;
 use crate::stretches::Ends;
-use crate::tally::{Tally, Total};
+use crate::tally::Tally;
 use array_data::entries;
 
 // The rows that are not null, their sum, and the mean in lowest terms.
@@ -35,12 +35,6 @@ pub struct MeanReport {
     pub under: u64,
 }
 
-#[derive(Clone, Copy)]
-pub enum MeanAnswer {
-    Done(MeanReport),
-    Refused(u8),
-}
-
 // The rows that both columns have, the two totals, and the first over the second in lowest terms.
 #[derive(Clone, Copy)]
 pub struct RatioReport {
@@ -50,12 +44,6 @@ pub struct RatioReport {
     pub minus: bool,
     pub over: u64,
     pub under: u64,
-}
-
-#[derive(Clone, Copy)]
-pub enum RatioAnswer {
-    Done(RatioReport),
-    Refused(u8),
 }
 
 // What a column's nodes say: whether it has runs, the code of its whole numbers (0: it has none), and the bytes of its run ends.
@@ -160,19 +148,19 @@ fn find_numbers(lengths: &[u64], places: &[u64], first: u32, s: Shape) -> Number
 // ---- one column
 
 // The answer of a tally: 15 before 16.
-fn mean_of(t: Tally, lift: u64) -> MeanAnswer
+fn mean_of(t: Tally, lift: u64) -> Result<MeanReport, u8>
     requires { (t.hi + t.below < 18446744073709551615) × (t.count < 9223372036854775808) }
     ensures { result ≡ mean_by t.count (tallied_by lift t) }
 {
-    let Total::Fits(sum) = tally::exact_sum(t, lift) else {
-        return MeanAnswer::Refused(15);
+    let Some(sum) = tally::exact_sum(t, lift) else {
+        return Err(15);
     };
     let count = t.count;
     if count == 0 {
-        return MeanAnswer::Refused(16);
+        return Err(16);
     }
     let f = fractions::reduced(sum, count as i64);
-    MeanAnswer::Done(MeanReport {
+    Ok(MeanReport {
         count,
         sum,
         minus: f.minus,
@@ -194,19 +182,19 @@ pub fn mean(
     n: u32,
     start: u64,
     end: u64,
-) -> MeanAnswer
+) -> Result<MeanReport, u8>
     ensures { result ≡ mean_report (was formats) (was schema) (tables_of (was lengths) (was places) (was buffers) (was body)) first n start end }
 {
     let refusal = columns::column_ground(formats, schema, lengths, places, buffers, body, first, n);
     if refusal != 0 {
-        return MeanAnswer::Refused(refusal);
+        return Err(refusal);
     }
     if !columns::column_pair::is_range(lengths, first, start, end) {
-        return MeanAnswer::Refused(2);
+        return Err(2);
     }
     let shape = find_shape(formats, schema, first);
     if shape.code == 0 {
-        return MeanAnswer::Refused(10);
+        return Err(10);
     }
     let numbers = find_numbers(lengths, places, first, shape);
     let t = crate::cell_sums::sum_rows(body, numbers, start, end);
@@ -217,21 +205,21 @@ pub fn mean(
 // ---- two columns
 
 // The answer of two tallies: 15 of either before 16.
-fn ratio_of(t: Tally, lift_t: u64, u: Tally, lift_u: u64) -> RatioAnswer
+fn ratio_of(t: Tally, lift_t: u64, u: Tally, lift_u: u64) -> Result<RatioReport, u8>
     requires { (t.hi + t.below < 18446744073709551615) × (u.hi + u.below < 18446744073709551615) }
     ensures { result ≡ ratio_by t.count (tallied_by lift_t t) (tallied_by lift_u u) }
 {
-    let Total::Fits(first) = tally::exact_sum(t, lift_t) else {
-        return RatioAnswer::Refused(15);
+    let Some(first) = tally::exact_sum(t, lift_t) else {
+        return Err(15);
     };
-    let Total::Fits(second) = tally::exact_sum(u, lift_u) else {
-        return RatioAnswer::Refused(15);
+    let Some(second) = tally::exact_sum(u, lift_u) else {
+        return Err(15);
     };
     if second == 0 {
-        return RatioAnswer::Refused(16);
+        return Err(16);
     }
     let f = fractions::reduced(first, second);
-    RatioAnswer::Done(RatioReport {
+    Ok(RatioReport {
         count: t.count,
         first,
         second,
@@ -255,28 +243,28 @@ pub fn ratio(
     n_b: u32,
     start: u64,
     end: u64,
-) -> RatioAnswer
+) -> Result<RatioReport, u8>
     ensures { result ≡ ratio_report (was formats) (was schema) (tables_of (was lengths) (was places) (was buffers) (was body)) first_a n_a first_b n_b start end }
 {
     let refusal = columns::column_pair::pair_ground(
         formats, schema, lengths, places, buffers, body, first_a, n_a, first_b, n_b,
     );
     if refusal != 0 {
-        return RatioAnswer::Refused(refusal);
+        return Err(refusal);
     }
     if !columns::column_pair::is_range(lengths, first_a, start, end) {
-        return RatioAnswer::Refused(2);
+        return Err(2);
     }
     if !columns::column_pair::is_range(lengths, first_b, start, end) {
-        return RatioAnswer::Refused(2);
+        return Err(2);
     }
     let p = find_shape(formats, schema, first_a);
     let q = find_shape(formats, schema, first_b);
     if p.code == 0 {
-        return RatioAnswer::Refused(10);
+        return Err(10);
     }
     if q.code == 0 {
-        return RatioAnswer::Refused(10);
+        return Err(10);
     }
     let a = find_numbers(lengths, places, first_a, p);
     let b = find_numbers(lengths, places, first_b, q);

@@ -24,13 +24,6 @@ pub struct Tally {
     pub below: u64,
 }
 
-// A sum that 64 bits hold as two's complement.
-#[derive(Clone, Copy)]
-pub enum Total {
-    Fits(i64),
-    Outside,
-}
-
 pub fn nothing() -> Tally
     ensures { (result.count ≡ 0) × (result.below ≡ 0) × (result.hi ≡ 0) × (result.lo ≡ 0) }
 {
@@ -89,8 +82,8 @@ pub fn of_halves(count: u64, below: u64, high: u64, low: u64) -> Tally
     }
 }
 
-// The sum, where a number below zero is stored as 2^64 - lift more.
-pub fn exact_sum(t: Tally, lift: u64) -> Total
+// The sum that 64 bits hold as two's complement, where a number below zero is stored as 2^64 - lift more.
+pub fn exact_sum(t: Tally, lift: u64) -> Option<i64>
     requires { t.hi + t.below < 18446744073709551615 }
     ensures { result ≡ total_of (tallied_by lift t) }
 {
@@ -98,17 +91,17 @@ pub fn exact_sum(t: Tally, lift: u64) -> Total
     let sum = wide::sum(Wide { hi: t.hi, lo: t.lo }, more);
     if sum.hi == t.below {
         if sum.lo < 9223372036854775808 {
-            return Total::Fits(i64::from_pattern(sum.lo));
+            return Some(i64::from_pattern(sum.lo));
         }
-        return Total::Outside;
+        return None;
     }
     if t.below == 0 {
-        return Total::Outside;
+        return None;
     }
     if sum.hi == t.below - 1 {
         if 9223372036854775808 <= sum.lo {
-            return Total::Fits(i64::from_pattern(sum.lo));
+            return Some(i64::from_pattern(sum.lo));
         }
     }
-    Total::Outside
+    None
 }

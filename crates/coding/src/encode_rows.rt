@@ -15,8 +15,7 @@ fn count_changes(body: &[u8], w: u8, masked: bool, s: Slots, m: usize) -> u64
 {
     let mut k = 0u64;
     let mut a = crate::run_coding::is_valid(body, masked, s, 0);
-    let mut r = 1;
-    while r < m {
+    for r in 1..m {
         let b = crate::run_coding::is_valid(body, masked, s, r);
         let x = crate::run_coding::number_at(body, w, s, r - 1);
         let y = crate::run_coding::number_at(body, w, s, r);
@@ -24,7 +23,6 @@ fn count_changes(body: &[u8], w: u8, masked: bool, s: Slots, m: usize) -> u64
             k += 1;
         }
         a = b;
-        r += 1;
     }
     k
 }
@@ -105,10 +103,9 @@ fn write_each(
     ensures value { result ≡ length (last_rows (was body) w masked s.start s.mask s.bit m) }
 {
     let mut k = 0;
-    let mut r = 0;
     let mut a = crate::run_coding::is_valid(body, masked, s, 0);
     let mut x = crate::run_coding::number_at(body, w, s, 0);
-    while r + 1 < m {
+    for r in 0..m - 1 {
         let b = crate::run_coding::is_valid(body, masked, s, r + 1);
         let y = crate::run_coding::number_at(body, w, s, r + 1);
         if crate::run_coding::is_change(a, b, x, y) {
@@ -117,9 +114,8 @@ fn write_each(
         }
         a = b;
         x = y;
-        r += 1;
     }
-    write_run(room, w, masked, e, t, k, r, a, x);
+    write_run(room, w, masked, e, t, k, m - 1, a, x);
     (k + 1) as u64
 }
 

@@ -22,10 +22,8 @@ fn fill(room: &mut [u8], at: usize, w: u8, n: usize, v: u64)
     requires { Sized w × (at + w * n ≤ length room.old) }
     ensures { room.new ≡ splice at (repeated w v n) room.old }
 {
-    let mut i = 0;
-    while i < n {
+    for i in 0..n {
         crate::run_coding::write_entry(room, at + (w as usize) * i, w, v);
-        i += 1;
     }
 }
 

@@ -24,7 +24,7 @@ pub fn write_words(row: Row, plan: &mut [u64])
     requires { (length plan.old ≡ 872) × (row.nulls ≤ 1) }
     ensures { plan.new ≡ row_plan_of row.code row.nullable row.nulls }
 {
-    result_plan::clear(plan);
+    plan.fill(0);
     let k = row.nulls;
     plan[0] = row.code as u64;
     plan[2] = 1;
@@ -41,7 +41,7 @@ pub fn write_counters(m: u64, counters: &mut [u64])
     requires { length counters.old ≡ 96 }
     ensures { counters.new ≡ row_counts m }
 {
-    result_plan::clear(counters);
+    counters.fill(0);
     counters[0] = m;
 }
 

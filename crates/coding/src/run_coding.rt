@@ -9,6 +9,7 @@ ghost use Rattle.coding.specs.run_coding.Rows.{number_in, valid_in, cell_of, as_
 ghost use Rattle.bits.specs.Bits.{put_bits};
 
 use aggregates::patterns;
+use number::Unsigned;
 
 // Where rows stand in a body: the first from `start` on, and its validity bit, where there is one, the bit `bit` of the byte `mask`.
 #[derive(Clone, Copy)]
@@ -66,10 +67,10 @@ pub fn write_entry(room: &mut [u8], at: usize, w: u8, v: u64)
     ensures { room.new ≡ splice at (encode w v) room.old }
 {
     match w {
-        1 => number::write_u8(room, at, (v % 256) as u8),
-        2 => number::write_u16(room, at, (v % 65536) as u16),
-        4 => number::write_u32(room, at, (v % 4294967296) as u32),
-        _ => number::write_u64(room, at, v),
+        1 => u8::truncate(v).write(room, at),
+        2 => u16::truncate(v).write(room, at),
+        4 => u32::truncate(v).write(room, at),
+        _ => v.write(room, at),
     }
 }
 

@@ -7,7 +7,7 @@ ghost use Rattle.aggregates.specs.Report.{mean_report, ratio_report};
 ghost use Rattle.lafkuno.specs.Sums.{flag_of, mean_words, ratio_words, mean_ground, mean_numbers, ratio_ground, ratio_numbers};
 
 use crate::reading;
-use aggregates::{MeanAnswer, MeanReport, RatioAnswer, RatioReport};
+use aggregates::{MeanReport, RatioReport};
 
 // The five numbers of a mean: the count, the sum as two's complement, 1 for minus, and the magnitudes.
 fn mean_words(r: MeanReport) -> [u64; 5]
@@ -64,7 +64,7 @@ pub extern "C" fn lafkuno_mean(
     match aggregates::mean(
         formats, schema, lengths, places, buffers, body, first, n, start, end,
     ) {
-        MeanAnswer::Done(report) => {
+        Ok(report) => {
             if answer.len() != 5 {
                 return 14;
             }
@@ -72,7 +72,7 @@ pub extern "C" fn lafkuno_mean(
             reading::copy_words(answer, &words);
             0
         }
-        MeanAnswer::Refused(refusal) => refusal,
+        Err(refusal) => refusal,
     }
 }
 
@@ -100,7 +100,7 @@ pub extern "C" fn lafkuno_ratio(
     match aggregates::ratio(
         formats, schema, lengths, places, buffers, body, first_a, n_a, first_b, n_b, start, end,
     ) {
-        RatioAnswer::Done(report) => {
+        Ok(report) => {
             if answer.len() != 6 {
                 return 14;
             }
@@ -108,6 +108,6 @@ pub extern "C" fn lafkuno_ratio(
             reading::copy_words(answer, &words);
             0
         }
-        RatioAnswer::Refused(refusal) => refusal,
+        Err(refusal) => refusal,
     }
 }

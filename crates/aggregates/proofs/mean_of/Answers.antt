@@ -21,7 +21,7 @@ returns-in_default c =
 
 pub returns-then-count-eq0 : goal.returns-then-count-eq0
 returns-then-count-eq0 c =
-    mean_none c.args.t.count _ (total_in _ _ (sym c.in-Fits.is ∙ c.exact_sum.ensures)).0 c.if-count-eq0.true
+    mean_none c.args.t.count _ (total_in _ _ (sym c.in-Some.is ∙ c.exact_sum.ensures)).0 c.if-count-eq0.true
 
 pub reduced-f-requires : goal.reduced-f-requires
 reduced-f-requires c =
@@ -29,6 +29,6 @@ reduced-f-requires c =
 
 pub returns : goal.returns
 returns c =
-    let t = total_in c.in-Fits.sum _ (sym c.in-Fits.is ∙ c.exact_sum.ensures) in
+    let t = total_in c.in-Some.sum _ (sym c.in-Some.is ∙ c.exact_sum.ensures) in
     let back = to_z-of_z (subst (SFits w64) (sym t.1) (its_fit _ t.0)) ∙ t.1 in
     mean_done c.args.t.count _ t.0 c.if-count-eq0.false _ back _ (c.reduced-f.ensures ∙ ap₂ fraction_of back (to_pos c.args.t.count c.requires.1))

@@ -38,19 +38,19 @@ returns-in_default-exact_sum c =
 
 pub returns-then-second-eq0 : goal.returns-then-second-eq0
 returns-then-second-eq0 c =
-    let t = total_in c.in-Fits.first _ (sym c.in-Fits.is ∙ c.exact_sum.ensures) in
-    let u = total_in c.in-Fits-exact_sum.second _ (sym c.in-Fits-exact_sum.is ∙ c.exact_sum-2.ensures) in
+    let t = total_in c.in-Some.first _ (sym c.in-Some.is ∙ c.exact_sum.ensures) in
+    let u = total_in c.in-Some-exact_sum.second _ (sym c.in-Some-exact_sum.is ∙ c.exact_sum-2.ensures) in
     ratio_none c.args.t.count _ _ t.0 u.0 (ap is_zero (bits_zero _ _ u.0 u.1 c.if-second-eq0.true))
 
 pub reduced-f-requires : goal.reduced-f-requires
 reduced-f-requires c =
-    let u = total_in c.in-Fits-exact_sum.second _ (sym c.in-Fits-exact_sum.is ∙ c.exact_sum-2.ensures) in
+    let u = total_in c.in-Some-exact_sum.second _ (sym c.in-Some-exact_sum.is ∙ c.exact_sum-2.ensures) in
     λ q. c.if-second-eq0.false (zero_bits _ _ u.1 (sym (read_back _ _ u.0 u.1) ∙ q))
 
 pub returns : goal.returns
 returns c =
-    let t = total_in c.in-Fits.first _ (sym c.in-Fits.is ∙ c.exact_sum.ensures) in
-    let u = total_in c.in-Fits-exact_sum.second _ (sym c.in-Fits-exact_sum.is ∙ c.exact_sum-2.ensures) in
+    let t = total_in c.in-Some.first _ (sym c.in-Some.is ∙ c.exact_sum.ensures) in
+    let u = total_in c.in-Some-exact_sum.second _ (sym c.in-Some-exact_sum.is ∙ c.exact_sum-2.ensures) in
     let back-y = read_back _ _ t.0 t.1 in
     let back-z = read_back _ _ u.0 u.1 in
     ratio_done c.args.t.count _ _ t.0 u.0 (zero_test _ (λ q. c.if-second-eq0.false (zero_bits _ _ u.1 q))) _ _ back-y back-z _ (c.reduced-f.ensures ∙ ap₂ fraction_of back-y back-z)

@@ -1,8 +1,6 @@
 -- The count and the exact sum of rows: W8, "the count of rows that aren't null, their exact sum". Assumes nothing.
-use Rattle.std.specs.Prelude.{ℕ, ◌+◌, ◌^◌, Bool, cond, List, [], ◌∷◌, ℤ, pos, negsuc, ◌+ℤ◌, nat_lt}
+use Rattle.std.specs.Prelude.{ℕ, ◌+◌, ◌^◌, Bool, cond, List, [], ◌∷◌, ℤ, pos, negsuc, ◌+ℤ◌, nat_lt, Option, Some, None}
 use Rattle.columnar.specs.Row.{Row, null, whole, single, double, bytes, list, union}
-use Rattle.aggregates.specs.declared.tally.Total.{Total}
-use Rattle.aggregates.specs.declared.tally.Total.TheVariants as total
 
 -- a row that is not null counts
 abbrev pub count_in : Row → ℕ
@@ -39,5 +37,5 @@ abbrev pub fits : ℤ → Bool
 fits (pos n) = nat_lt n (2 ^ 63)
 fits (negsuc n) = nat_lt n (2 ^ 63)
 
-unfoldable pub total_of : ℤ → Total
-total_of z = cond (fits z) (total.Fits z) total.Outside
+unfoldable pub total_of : ℤ → Option ℤ
+total_of z = cond (fits z) (Some z) None

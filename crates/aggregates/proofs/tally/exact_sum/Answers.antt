@@ -1,9 +1,9 @@
 -- `tally::exact_sum` meets its contract. Assumes nothing.
+use Rattle.std.specs.Prelude.{Some}
 use Rattle.std.proofs.Common.{◌≡◌, ℕ, suc, ◌+◌, ◌-◌, ◌*◌, ◌<◌, ◌≤◌, ℤ, pos, ◌+ℤ◌, sym, refl, ap, ◌∙◌, mul_comm, mul-add, arith, w64, Fits, to_z, of_z}
 use lib.IntN.{+ℤ_assoc, pos-+ℤ-pos}
 use Rattle.number.specs.Number.{signed}
 use Rattle.number.proofs.Signs.{read_value}
-use Rattle.aggregates.specs.declared.tally.Total.TheVariants as total
 use Rattle.aggregates.specs.declared.tally.Tally.{Tally}
 use Rattle.aggregates.specs.tally.Cells.{value_of, tallied_by}
 use Rattle.aggregates.proofs.tally.Integers.{more}
@@ -41,7 +41,7 @@ sum-sum-requires c =
 
 pub returns-then-sum-lt9223372036854775808 : goal.returns-then-sum-lt9223372036854775808
 returns-then-sum-lt9223372036854775808 c =
-    ap total.Fits (back _ _ c.from_pattern.ensures (record { fits = (let fact : c.sum-sum.result.lo < 18446744073709551616 = omega (arith, c.sum-sum.type_inv) in fact) }))
+    ap Some (back _ _ c.from_pattern.ensures (record { fits = (let fact : c.sum-sum.result.lo < 18446744073709551616 = omega (arith, c.sum-sum.type_inv) in fact) }))
     ∙ level c.sum-sum.result.hi c.sum-sum.result.lo c.args.t.below ((let fact : c.sum-sum.result.lo < 18446744073709551616 = omega (arith, c.sum-sum.type_inv) in fact)) _ ((let fact : pos (c.sum-sum.result.hi * 18446744073709551616 + c.sum-sum.result.lo) ≡ tallied_by c.args.lift c.args.t +ℤ pos (c.args.t.below * 18446744073709551616) = lifted c.args.t c.args.lift _ _ (omega (arith, c.ranges.lift.fits)) c.product-more.ensures c.sum-sum.ensures in fact)) c.if-sum-t.true c.if-sum-lt9223372036854775808.true
 
 pub returns-then-sum-t : goal.returns-then-sum-t
@@ -54,7 +54,7 @@ returns-then-t-eq0 c =
 
 pub returns-then-sum-ge9223372036854775808 : goal.returns-then-sum-ge9223372036854775808
 returns-then-sum-ge9223372036854775808 c =
-    ap total.Fits (back _ _ c.from_pattern-then-sum-ge9223372036854775808.ensures (record { fits = (let fact : c.sum-sum.result.lo < 18446744073709551616 = omega (arith, c.sum-sum.type_inv) in fact) }))
+    ap Some (back _ _ c.from_pattern-then-sum-ge9223372036854775808.ensures (record { fits = (let fact : c.sum-sum.result.lo < 18446744073709551616 = omega (arith, c.sum-sum.type_inv) in fact) }))
     ∙ under c.sum-sum.result.hi c.sum-sum.result.lo c.args.t.below ((let fact : c.sum-sum.result.lo < 18446744073709551616 = omega (arith, c.sum-sum.type_inv) in fact)) _ ((let fact : pos (c.sum-sum.result.hi * 18446744073709551616 + c.sum-sum.result.lo) ≡ tallied_by c.args.lift c.args.t +ℤ pos (c.args.t.below * 18446744073709551616) = lifted c.args.t c.args.lift _ _ (omega (arith, c.ranges.lift.fits)) c.product-more.ensures c.sum-sum.ensures in fact)) (one_less _ _ c.if-sum-t-2.true c.if-t-eq0.false) c.if-sum-ge9223372036854775808.true
 
 pub returns-else-sum-ge9223372036854775808 : goal.returns-else-sum-ge9223372036854775808

@@ -7,7 +7,4 @@ use Rattle.coding.proofs.encode_rows.count_changes.Given as goal
 
 abbrev pub invariant-loop-r : goal.invariant-loop-r
 invariant-loop-r l =
-    (1 ≤ l.r) × (l.r ≤ l.m) × (l.k < l.r) × (l.a ≡ valid_in l.body l.masked l.s.mask l.s.bit (l.r - 1)) × (l.k ≡ length (those (change_in l.body l.w l.masked l.s.start l.s.mask l.s.bit) 0 (l.r - 1)))
-
-abbrev pub decreases-loop-r : goal.decreases-loop-r
-decreases-loop-r l = l.m - l.r
+    (l.k < l.r) × (l.a ≡ valid_in l.body l.masked l.s.mask l.s.bit (l.r - 1)) × (l.k ≡ length (those (change_in l.body l.w l.masked l.s.start l.s.mask l.s.bit) 0 (l.r - 1)))

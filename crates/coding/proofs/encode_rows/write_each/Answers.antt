@@ -1,5 +1,5 @@
 -- `run_coding::encode::write_each` meets its contract: the runs that end before row r are written. Assumes nothing.
-use mathlib.Core.Path.{◌≡◌, refl, sym, ap, ◌∙◌}
+use mathlib.Core.Path.{◌≡◌, refl, sym, ap, subst, ◌∙◌}
 use mathlib.Core.Logic.{⊎_elim}
 use mathlib.Core.Bool.{Bool, true, false}
 use mathlib.Core.List.{List, [], ◌∷◌, ◌++◌}
@@ -76,66 +76,51 @@ number_at-x-requires c =
 pub loop-r-init : goal.loop-r-init
 loop-r-init c =
     let z = c.args in
-    (c.requires.le_m.0, omega arith, refl, c.is_valid-a.ensures, c.number_at-x.ensures, refl, sym (runs_none z.body.now z.w z.masked z.s.start z.s.mask z.s.bit z.e z.t.ends z.t.values z.t.mask z.room.now))
-
-pub overflow_add-r : goal.overflow_add-r
-overflow_add-r c = omega (arith, c.loop-r.invariant.0, c.requires.le_m.1)
-
-pub overflow_add-r-in-loop-r : goal.overflow_add-r-in-loop-r
-overflow_add-r-in-loop-r c = omega (arith, c.loop-r.invariant.0, c.requires.le_m.1)
+    (omega arith, c.is_valid-a.ensures, c.number_at-x.ensures, refl, sym (runs_none z.body.now z.w z.masked z.s.start z.s.mask z.s.bit z.e z.t.ends z.t.values z.t.mask z.room.now))
 
 pub is_valid-b-requires : goal.is_valid-b-requires
 is_valid-b-requires c =
     let z = c.args in
-    bit_held z.body.now z.w z.masked z.s.start z.s.mask z.s.bit z.m c.requires.le_m.3 (c.loop-r.r + 1) c.loop-r-test.true
-
-pub overflow_add-r-in-loop-r-2 : goal.overflow_add-r-in-loop-r-2
-overflow_add-r-in-loop-r-2 c = omega (arith, c.loop-r.invariant.0, c.requires.le_m.1)
+    bit_held z.body.now z.w z.masked z.s.start z.s.mask z.s.bit z.m c.requires.le_m.3 (c.loop-r.r + 1) (omega arith)
 
 pub number_at-y-requires : goal.number_at-y-requires
 number_at-y-requires c =
     let z = c.args in
-    (c.requires.le_m.3.sized, row_held z.body.now z.w z.masked z.s.start z.s.mask z.s.bit z.m c.requires.le_m.3 (c.loop-r.r + 1) c.loop-r-test.true)
+    (c.requires.le_m.3.sized, row_held z.body.now z.w z.masked z.s.start z.s.mask z.s.bit z.m c.requires.le_m.3 (c.loop-r.r + 1) (omega arith))
 
 pub write_run-requires : goal.write_run-requires
 write_run-requires c =
     let z = c.args in
     let l = c.loop-r in
-    let f = one_fits z.body.now z.w z.masked z.s.start z.s.mask z.s.bit z.e z.t.ends z.t.values z.t.mask (length z.room.now) z.m l.k l.r l.invariant.0 l.invariant.5 c.requires.fits in
-    (c.requires.le_m.3.sized, c.requires.le_m.2, rw l.invariant.2 f, omega (arith, l.invariant.0, c.requires.le_m.1))
+    let f = one_fits z.body.now z.w z.masked z.s.start z.s.mask z.s.bit z.e z.t.ends z.t.values z.t.mask (length z.room.now) z.m l.k l.r (omega arith) l.invariant.3 c.requires.fits in
+    (c.requires.le_m.3.sized, c.requires.le_m.2, rw c.loop-r.auto.room f, omega arith)
 
 pub overflow_add-k : goal.overflow_add-k
-overflow_add-k c = omega (arith, c.loop-r.invariant.1, c.loop-r.invariant.0, c.requires.le_m.1)
-
-pub overflow_add-r-in-loop-r-3 : goal.overflow_add-r-in-loop-r-3
-overflow_add-r-in-loop-r-3 c = omega (arith, c.loop-r.invariant.0, c.requires.le_m.1)
-
-pub loop-r-smaller : goal.loop-r-smaller
-loop-r-smaller c = omega (arith, c.loop-r-test.true)
+overflow_add-k c = omega arith
 
 pub loop-r-preserved : goal.loop-r-preserved
 loop-r-preserved c =
     let z = c.args in
     let l = c.loop-r in
-    let d = change_is z.body.now z.w z.masked z.s.start z.s.mask z.s.bit l.r l.invariant.3 (c.is_valid-b.ensures ∙ ap (valid_in z.body.now z.masked z.s.mask z.s.bit) (add-one l.r)) l.invariant.4 (c.number_at-y.ensures ∙ ap (number_in z.body.now z.w z.s.start) (add-one l.r)) c.is_change.ensures in
+    let d = change_is z.body.now z.w z.masked z.s.start z.s.mask z.s.bit l.r l.invariant.1 (c.is_valid-b.ensures ∙ ap (valid_in z.body.now z.masked z.s.mask z.s.bit) (add-one l.r)) l.invariant.2 (c.number_at-y.ensures ∙ ap (number_in z.body.now z.w z.s.start) (add-one l.r)) c.is_change.ensures in
     ⊎_elim
     (λ q.
-    let f = step_yes z.body.now z.w z.masked z.s.start z.s.mask z.s.bit z.e z.t.ends z.t.values z.t.mask z.room.now l.k l.r (d ∙ q.if-is_change.true) l.invariant.5 l.invariant.3 l.invariant.4 l.invariant.6 q.write_run.ensures in
-    (c.loop-r-test.true, omega (arith, q.k-is, l.invariant.1), ap length q.room-is ∙ omega (arith, l.invariant.2), c.is_valid-b.ensures, c.number_at-y.ensures, q.k-is ∙ f.0, q.room-is ∙ f.1))
+    let f = step_yes z.body.now z.w z.masked z.s.start z.s.mask z.s.bit z.e z.t.ends z.t.values z.t.mask z.room.now l.k l.r (d ∙ q.if-is_change.true) l.invariant.3 l.invariant.1 l.invariant.2 l.invariant.4 q.write_run.ensures in
+    (omega (arith, q.k-is, l.invariant.0), c.is_valid-b.ensures, c.number_at-y.ensures, q.k-is ∙ f.0, q.room-is ∙ f.1))
     (λ q.
-    let f = step_no z.body.now z.w z.masked z.s.start z.s.mask z.s.bit z.e z.t.ends z.t.values z.t.mask z.room.now l.k l.r (d ∙ q.if-is_change.false) l.invariant.5 l.invariant.6 in
-    (c.loop-r-test.true, omega (arith, q.k-is, l.invariant.1), ap length q.room-is ∙ l.invariant.2, c.is_valid-b.ensures, c.number_at-y.ensures, q.k-is ∙ f.0, q.room-is ∙ f.1))
+    let f = step_no z.body.now z.w z.masked z.s.start z.s.mask z.s.bit z.e z.t.ends z.t.values z.t.mask z.room.now l.k l.r (d ∙ q.if-is_change.false) l.invariant.3 l.invariant.4 in
+    (omega (arith, q.k-is, l.invariant.0), c.is_valid-b.ensures, c.number_at-y.ensures, q.k-is ∙ f.0, q.room-is ∙ f.1))
     c.if-is_change.branch-raw
 
 pub write_run-requires-2 : goal.write_run-requires-2
 write_run-requires-2 c =
     let z = c.args in
     let l = c.loop-r in
-    let f = one_fits z.body.now z.w z.masked z.s.start z.s.mask z.s.bit z.e z.t.ends z.t.values z.t.mask (length z.room.now) z.m l.k l.r l.invariant.0 l.invariant.5 c.requires.fits in
-    (c.requires.le_m.3.sized, c.requires.le_m.2, rw l.invariant.2 f, omega (arith, l.invariant.0, c.requires.le_m.1))
+    let f = one_fits z.body.now z.w z.masked z.s.start z.s.mask z.s.bit z.e z.t.ends z.t.values z.t.mask (length z.room.now) z.m l.k l.r (omega arith) l.invariant.3 c.requires.fits in
+    (c.requires.le_m.3.sized, c.requires.le_m.2, rw c.loop-r.auto.room f, omega arith)
 
 pub overflow_add-result : goal.overflow_add-result
-overflow_add-result c = let l = c.loop-r in omega (arith, l.invariant.1, l.invariant.0, c.requires.le_m.1)
+overflow_add-result c = let l = c.loop-r in omega arith
 
 pub shape_of-room : goal.shape_of-room
 shape_of-room c = omega arith
@@ -144,4 +129,9 @@ pub returns : goal.returns
 returns c =
     let z = c.args in
     let l = c.loop-r in
-    let q : l.r + 1 ≡ z.m = omega (arith, c.loop-r-test.false, l.invariant.0) in record { room_value = ended z.body.now z.w z.masked z.s.start z.s.mask z.s.bit z.e z.t.ends z.t.values z.t.mask z.room.now l.k l.r z.m q l.invariant.5 l.invariant.3 l.invariant.4 l.invariant.6 c.write_run-2.ensures; value = all_counted z.body.now z.w z.masked z.s.start z.s.mask z.s.bit l.k l.r z.m q l.invariant.5 }
+    let e : z.m - 1 ≡ l.r = omega arith in
+    let q : l.r + 1 ≡ z.m = omega arith in
+    let h = subst (λ r. c.write_run-2.new.room ≡ run_written z.w z.masked z.e z.t.ends z.t.values z.t.mask l.k r l.a l.x l.room) e c.write_run-2.ensures in record {
+      room_value = ended z.body.now z.w z.masked z.s.start z.s.mask z.s.bit z.e z.t.ends z.t.values z.t.mask z.room.now l.k l.r z.m q l.invariant.3 l.invariant.1 l.invariant.2 l.invariant.4 h;
+      value = all_counted z.body.now z.w z.masked z.s.start z.s.mask z.s.bit l.k l.r z.m q l.invariant.3;
+    }

@@ -8,9 +8,6 @@ use Rattle.coding.proofs.encode_rows.write_each.Given as goal
 
 abbrev pub invariant-loop-r : goal.invariant-loop-r
 invariant-loop-r l =
-    (l.r < l.m) × (l.k ≤ l.r) × (length l.room ≡ length l.initial.room) × (l.a ≡ valid_in l.body l.masked l.s.mask l.s.bit l.r) × (l.x ≡ number_in l.body l.w l.s.start l.r)
+    (l.k ≤ l.r) × (l.a ≡ valid_in l.body l.masked l.s.mask l.s.bit l.r) × (l.x ≡ number_in l.body l.w l.s.start l.r)
     × (l.k ≡ length (those (change_in l.body l.w l.masked l.s.start l.s.mask l.s.bit) 0 l.r))
     × (l.room ≡ runs_written l.body l.w l.masked l.s.start l.s.mask l.s.bit l.e l.t.ends l.t.values l.t.mask 0 (those (change_in l.body l.w l.masked l.s.start l.s.mask l.s.bit) 0 l.r) l.initial.room)
-
-abbrev pub decreases-loop-r : goal.decreases-loop-r
-decreases-loop-r l = l.m - l.r

@@ -14,7 +14,7 @@ more : (w i : ℕ) → w * (i + 1) ≡ w * i + w
 more w i = omega arith
 
 pub loop-i-init : goal.loop-i-init
-loop-i-init c = (omega arith, refl, sym (repeated_none _ _ _ _))
+loop-i-init c = sym (repeated_none _ _ _ _)
 
 pub overflow_mul-w : goal.overflow_mul-w
 overflow_mul-w c = let z = inside c.args.w c.loop-i.i c.args.n c.loop-i-test.true in omega (arith, z, c.requires.1)
@@ -25,20 +25,14 @@ overflow_add-at c = let z = inside c.args.w c.loop-i.i c.args.n c.loop-i-test.tr
 pub write_entry-requires : goal.write_entry-requires
 write_entry-requires c =
     let z = inside c.args.w c.loop-i.i c.args.n c.loop-i-test.true in
-    (c.requires.0, omega (arith, z, c.requires.1, c.loop-i.invariant.1))
-
-pub overflow_add-i : goal.overflow_add-i
-overflow_add-i c = omega arith
-
-pub loop-i-smaller : goal.loop-i-smaller
-loop-i-smaller c = omega arith
+    (c.requires.0, omega (arith, z, c.requires.1))
 
 pub loop-i-preserved : goal.loop-i-preserved
 loop-i-preserved c =
     let a = c.args in
     let l = c.loop-i in
     let z = inside a.w l.i a.n c.loop-i-test.true in
-    (omega arith, omega arith, cc (repeated_step a.w a.v a.room.now a.at l.i (omega (arith, z, more a.w l.i, c.requires.1))))
+    cc (repeated_step a.w a.v a.room.now a.at l.i (omega (arith, z, more a.w l.i, c.requires.1)))
 
 pub shape_of-room : goal.shape_of-room
 shape_of-room c = omega arith
@@ -46,4 +40,4 @@ shape_of-room c = omega arith
 pub returns : goal.returns
 returns c =
     let e : c.loop-i.i ≡ c.args.n = omega arith in
-    c.loop-i.invariant.2 ∙ rw e
+    c.loop-i.invariant ∙ rw e

@@ -6,7 +6,4 @@ use Rattle.utils.specs.Offsets.{repeated}
 use Rattle.coding.proofs.expand_rows.fill.Given as goal
 
 abbrev pub invariant-loop-i : goal.invariant-loop-i
-invariant-loop-i l = (l.i ≤ l.n) × (length l.room ≡ length l.initial.room) × (l.room ≡ splice l.at (repeated l.w l.v l.i) l.initial.room)
-
-abbrev pub decreases-loop-i : goal.decreases-loop-i
-decreases-loop-i l = l.n - l.i
+invariant-loop-i l = l.room ≡ splice l.at (repeated l.w l.v l.i) l.initial.room

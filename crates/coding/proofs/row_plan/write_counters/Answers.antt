@@ -5,4 +5,4 @@ use Rattle.coding.proofs.row_plan.write_counters.Goals as goal
 
 pub returns : goal.returns
 returns c =
-    ap (λ l. set l 0 c.args.m) (c.clear.ensures ∙ ap (λ n. replicate n 0) c.requires)
+    ap (λ l. set l 0 c.args.m) (c.fill.ensures.after (λ y e. e) ∙ ap (λ n. replicate n 0) c.requires)

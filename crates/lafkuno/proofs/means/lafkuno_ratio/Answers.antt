@@ -5,12 +5,12 @@ use Rattle.lafkuno.proofs.means.lafkuno_ratio.Goals as goal
 
 pub returns-then-answer-ne6 : goal.returns-then-answer-ne6
 returns-then-answer-ne6 c =
-    let both = ratio_short _ _ c.if-answer-ne6.true c.in-Done.report (sym c.ratio.ensures ∙ c.in-Done.is) in record { value = both.0; answer_value = both.1 }
+    let both = ratio_short _ _ c.if-answer-ne6.true c.in-Ok.report (sym c.ratio.ensures ∙ c.in-Ok.is) in record { value = both.0; answer_value = both.1 }
 
 pub returns-else-answer-ne6 : goal.returns-else-answer-ne6
 returns-else-answer-ne6 c =
-    let both = ratio_done _ _ c.if-answer-ne6.false c.in-Done.report (sym c.ratio.ensures ∙ c.in-Done.is) _ _ c.ratio_words-words.ensures c.copy_words.ensures in record { value = both.0; answer_value = both.1 }
+    let both = ratio_done _ _ c.if-answer-ne6.false c.in-Ok.report (sym c.ratio.ensures ∙ c.in-Ok.is) _ _ c.ratio_words-words.ensures c.copy_words.ensures in record { value = both.0; answer_value = both.1 }
 
-pub returns-in-Refused : goal.returns-in-Refused
-returns-in-Refused c =
-    let both = ratio_refused _ _ _ (sym c.ratio.ensures ∙ c.in-Refused.is) in record { value = both.0; answer_value = both.1 }
+pub returns-in-Err : goal.returns-in-Err
+returns-in-Err c =
+    let both = ratio_refused _ _ _ (sym c.ratio.ensures ∙ c.in-Err.is) in record { value = both.0; answer_value = both.1 }
