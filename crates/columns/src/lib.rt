@@ -54,15 +54,13 @@ fn all_fit(
     requires { (first < 2 ^ 32) × (n ≤ 32) }
     ensures { result ≡ every (node_fits (was formats) (was schema) (tables (was lengths) (was places) []) first) n }
 {
-    let mut i = 0;
-    while i < n {
+    for i in 0..n {
         if !count_fits(lengths, first + i) {
             return false;
         }
         if !has_few_buffers(formats, schema, places, first, i) {
             return false;
         }
-        i += 1;
     }
     true
 }
@@ -152,14 +150,12 @@ fn all_within(
     ensures { result ≡ all_within (was formats) (was schema) (tables (was lengths) (was places) []) (was sources) }
 {
     let m = sources.len() / 2;
-    let mut s = 0;
-    while s < m {
+    for s in 0..m {
         let first = first_of(sources, s);
         let nodes = nodes_of(sources, s);
         if !is_within(formats, schema, lengths, places, first, nodes) {
             return false;
         }
-        s += 1;
     }
     true
 }
@@ -169,14 +165,12 @@ fn all_typed(sources: &[u32], formats: &[u8], schema: &[u32]) -> bool
     ensures { result ≡ all_typed (was formats) (was schema) (was sources) }
 {
     let m = sources.len() / 2;
-    let mut s = 0;
-    while s < m {
+    for s in 0..m {
         let first = first_of(sources, s) as usize;
         let nodes = nodes_of(sources, s) as usize;
         if !schema::is_typed(formats, schema, first, nodes) {
             return false;
         }
-        s += 1;
     }
     true
 }
@@ -188,14 +182,12 @@ fn all_same(sources: &[u32], formats: &[u8], schema: &[u32]) -> bool
     let first = first_of(sources, 0) as usize;
     let nodes = nodes_of(sources, 0) as usize;
     let m = sources.len() / 2;
-    let mut s = 0;
-    while s < m {
+    for s in 0..m {
         let first2 = first_of(sources, s) as usize;
         let nodes2 = nodes_of(sources, s) as usize;
         if !schema::same_type(formats, schema, first, nodes, first2, nodes2) {
             return false;
         }
-        s += 1;
     }
     true
 }
@@ -214,14 +206,12 @@ fn all_obey(
     ensures { result ≡ all_obey (was formats) (was schema) (tables_of (was lengths) (was places) (was buffers) (was body)) (was sources) }
 {
     let count = sources.len() / 2;
-    let mut s = 0;
-    while s < count {
+    for s in 0..count {
         let from = first_of(sources, s) as usize;
         let size = nodes_of(sources, s) as usize;
         if !source_rules::source_ok(formats, schema, lengths, places, buffers, body, from, size) {
             return false;
         }
-        s += 1;
     }
     true
 }

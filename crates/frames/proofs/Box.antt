@@ -34,21 +34,20 @@ use Rattle.columns.proofs.Grounds.{within_low, obeys_is, column_accepted}
 use Rattle.columns.specs.column_pair.Pair.{pair_ground, plain_code, range_in}
 use Rattle.columns.proofs.column_pair.Pair.{pair_first, pair_none, plain_type, range_known}
 use Rattle.frames.specs.declared.Frame.{Frame}
-use Rattle.frames.specs.declared.Boxed.{Boxed}
-use Rattle.frames.specs.declared.Boxed.TheVariants as boxed
 use Rattle.frames.specs.Frames.{joined, Stop, framed, together}
 use Rattle.frames.specs.Slots.{slot_row, slot_stop, no_mask, mask_from, mask_place, Placed, lent_stops}
 use Rattle.frames.specs.Box.{ground_of, found, is_double, row_at, stop_at, stops, both_ground, box_of}
 use Rattle.frames.proofs.Frames.{frames_joined}
 use Rattle.frames.proofs.Slots.{shift}
+use Rattle.std.specs.Prelude.{Result, Ok, Err}
 
 -- ---- the grounds
 
-grounds : (b : Bool) (p q : Boxed) → ground_of (cond b p q) ≡ cond b (ground_of p) (ground_of q)
+grounds : (b : Bool) (p q : Result Frame ℕ) → ground_of (cond b p q) ≡ cond b (ground_of p) (ground_of q)
 grounds true p q = refl
 grounds false p q = refl
 
-in_order_lem : (s t o : Bool) (r : Boxed) → ground_of (cond (eqb (cond s (cond t (cond o 0 12) 10) 9) 0) r (boxed.Refused (cond s (cond t (cond o 0 12) 10) 9)))
+in_order_lem : (s t o : Bool) (r : Result Frame ℕ) → ground_of (cond (eqb (cond s (cond t (cond o 0 12) 10) 9) 0) r (Err (cond s (cond t (cond o 0 12) 10) 9)))
     ≡ cond s (cond t (cond o (ground_of r) 12) 10) 9
 in_order_lem false t o r = refl
 in_order_lem true false o r = refl
@@ -69,32 +68,32 @@ module _ (formats schema : List ℕ) (x : Tables) (a n b m start end : ℕ) wher
       9
   unfolding box_of
   box_ground =
-      let rest = cond (range_in x a start end && range_in x b start end) (cond (is_double formats schema a n && is_double formats schema b m) (found (framed (stops formats schema x a n b m start end))) (boxed.Refused 10)) (boxed.Refused 2) in
-      ap (λ g. ground_of (cond (eqb g 0) rest (boxed.Refused g))) (pair_first formats schema x a n b m)
+      let rest = cond (range_in x a start end && range_in x b start end) (cond (is_double formats schema a n && is_double formats schema b m) (found (framed (stops formats schema x a n b m start end))) (Err 10)) (Err 2) in
+      ap (λ g. ground_of (cond (eqb g 0) rest (Err g))) (pair_first formats schema x a n b m)
       ∙ in_order_lem (small_body x.body && (within_ceilings formats schema x a n && within_ceilings formats schema x b m)) (typed formats schema a n && typed formats schema b m) (obeys formats schema x a n && obeys formats schema x b m) rest
       ∙ ap (λ g. cond (small_body x.body && (within_ceilings formats schema x a n && within_ceilings formats schema x b m)) (cond (typed formats schema a n && typed formats schema b m) (cond (obeys formats schema x a n && obeys formats schema x b m) g 12) 10) 9)
-      (grounds (range_in x a start end && range_in x b start end) (cond (is_double formats schema a n && is_double formats schema b m) (found (framed (stops formats schema x a n b m start end))) (boxed.Refused 10)) (boxed.Refused 2)
+      (grounds (range_in x a start end && range_in x b start end) (cond (is_double formats schema a n && is_double formats schema b m) (found (framed (stops formats schema x a n b m start end))) (Err 10)) (Err 2)
       ∙ ap (λ g. cond (range_in x a start end && range_in x b start end) g 2)
-      (grounds (is_double formats schema a n && is_double formats schema b m) (found (framed (stops formats schema x a n b m start end))) (boxed.Refused 10)))
+      (grounds (is_double formats schema a n && is_double formats schema b m) (found (framed (stops formats schema x a n b m start end))) (Err 10)))
 
   -- ---- what the code answers
 
-  pub box_malformed : {g : ℕ} → g ≡ both_ground formats schema x a n b m → (g ≡ 0 → ⊥) → boxed.Refused g ≡ box_of formats schema x a n b m start end
+  pub box_malformed : {g : ℕ} → g ≡ both_ground formats schema x a n b m → (g ≡ 0 → ⊥) → Err g ≡ box_of formats schema x a n b m start end
   unfolding box_of
   box_malformed {g} e h =
       let f : eqb (both_ground formats schema x a n b m) 0 ≡ false = ne_eqb (both_ground formats schema x a n b m) 0 (λ q. h (e ∙ q)) in
-      rw f (ap boxed.Refused e)
+      rw f (ap Err e)
 
   module _ (z : both_ground formats schema x a n b m ≡ 0) where
     zero_test : eqb (both_ground formats schema x a n b m) 0 ≡ true
     zero_test = eq-eqb (both_ground formats schema x a n b m) 0 z
 
-    pub box_outside : range_in x a start end && range_in x b start end ≡ false → boxed.Refused 2 ≡ box_of formats schema x a n b m start end
+    pub box_outside : range_in x a start end && range_in x b start end ≡ false → Err 2 ≡ box_of formats schema x a n b m start end
     unfolding box_of
     box_outside h = rw (zero_test, h)
 
     pub box_other : range_in x a start end && range_in x b start end ≡ true → is_double formats schema a n && is_double formats schema b m ≡ false
-        → boxed.Refused 10 ≡ box_of formats schema x a n b m start end
+        → Err 10 ≡ box_of formats schema x a n b m start end
     unfolding box_of
     box_other h d = rw (zero_test, h, d)
 
@@ -244,7 +243,7 @@ module _ (formats schema : List ℕ) (x : Tables) (a n b m : ℕ) (z : both_grou
 
 -- ---- what the theorems of frames come to
 
-is_within : (o : Option Frame) (f : Frame) → found o ≡ boxed.Within f → o ≡ some f
+is_within : (o : Option Frame) (f : Frame) → found o ≡ Ok f → o ≡ some f
 is_within none f e = let z : ◌≡◌ {A = ℕ} 0 1 = cc in absurd (omega arith)
 is_within (some g) f e = cc
 
@@ -268,16 +267,16 @@ pub record Answered (formats schema : List ℕ) (x : Tables) (a n b m start end 
 
 module _ (formats schema : List ℕ) (x : Tables) (a n b m : ℕ) where
   -- A BOX THAT IS ANSWERED is the frame of its rows: what holds of frames of lists holds of it
-  pub box_frame : (start end : ℕ) (f : Frame) → box_of formats schema x a n b m start end ≡ boxed.Within f → Answered formats schema x a n b m start end f
+  pub box_frame : (start end : ℕ) (f : Frame) → box_of formats schema x a n b m start end ≡ Ok f → Answered formats schema x a n b m start end f
   unfolding box_of
   box_frame start end f = go (eqb (both_ground formats schema x a n b m) 0) refl (range_in x a start end && range_in x b start end) refl (is_double formats schema a n && is_double formats schema b m) refl
     where
-      refused : {A : Type 0} {g : ℕ} → boxed.Refused g ≡ boxed.Within f → A
+      refused : {A : Type 0} {g : ℕ} → Err g ≡ Ok f → A
       refused e = let z : ◌≡◌ {A = ℕ} 0 1 = cc in absurd (omega arith)
 
       go : (p : Bool) → eqb (both_ground formats schema x a n b m) 0 ≡ p → (q : Bool) → range_in x a start end && range_in x b start end ≡ q
           → (r : Bool) → is_double formats schema a n && is_double formats schema b m ≡ r
-          → cond p (cond q (cond r (found (framed (stops formats schema x a n b m start end))) (boxed.Refused 10)) (boxed.Refused 2)) (boxed.Refused (both_ground formats schema x a n b m)) ≡ boxed.Within f
+          → cond p (cond q (cond r (found (framed (stops formats schema x a n b m start end))) (Err 10)) (Err 2)) (Err (both_ground formats schema x a n b m)) ≡ Ok f
           → Answered formats schema x a n b m start end f
       go false i q j r k e = refused e
       go true i false j r k e = refused e
@@ -294,8 +293,8 @@ module _ (formats schema : List ℕ) (x : Tables) (a n b m : ℕ) where
       ∙ ap (λ s. stops formats schema x a n b m start middle ++ seg (stop_at formats schema x a n b m) s (end - middle)) d
 
   -- A RANGE CUT IN TWO: the frame of both parts is joined from theirs, the left one first
-  pub box_joined : (start middle end : ℕ) (f g : Frame) → box_of formats schema x a n b m start middle ≡ boxed.Within f → box_of formats schema x a n b m middle end ≡ boxed.Within g
-      → box_of formats schema x a n b m start end ≡ boxed.Within (joined f g)
+  pub box_joined : (start middle end : ℕ) (f g : Frame) → box_of formats schema x a n b m start middle ≡ Ok f → box_of formats schema x a n b m middle end ≡ Ok g
+      → box_of formats schema x a n b m start end ≡ Ok (joined f g)
   box_joined start middle end f g p q =
       let u = box_frame start middle f p in
       let v = box_frame middle end g q in

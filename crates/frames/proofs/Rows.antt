@@ -20,13 +20,13 @@ use Rattle.columns.specs.Grounds.{column_ground}
 use Rattle.columns.specs.column_pair.Pair.{range_in}
 use Rattle.columns.proofs.column_pair.Pair.{pair_none, range_known}
 use Rattle.frames.specs.declared.Frame.{Frame}
-use Rattle.frames.specs.declared.Boxed.TheVariants as boxed
 use Rattle.frames.specs.Frames.{Stop, counts}
 use Rattle.frames.specs.Sides.{Side, least_latitude, most_latitude, least_longitude, most_longitude, side_of, row_of, FromRow, AtRow}
 use Rattle.frames.specs.Slots.{slot_row}
 use Rattle.frames.specs.Box.{is_double, row_at, stop_at, stops, box_of}
 use Rattle.frames.proofs.Sides.{sides_from_rows}
 use Rattle.frames.proofs.Box.{row_is, Answered, box_frame}
+use Rattle.std.specs.Prelude.{Ok}
 
 -- ---- where an element of a stretch stands
 
@@ -67,7 +67,7 @@ module _ (formats schema : List ℕ) (x : Tables) (a n b m : ℕ) (bytes : (j : 
   column_bits first k h d i q e =
       slot_bits (first_buffer x first) (valid_of x first) (offset_of x first + i) q (part_bytes x.body bytes (place x first 3) (place x first 4)) (sym (row_is formats schema x first k h d i) ∙ e)
 
-  module _ (start end : ℕ) (f : Frame) (h : box_of formats schema x a n b m start end ≡ boxed.Within f) where
+  module _ (start end : ℕ) (f : Frame) (h : box_of formats schema x a n b m start end ≡ Ok f) where
     known : Answered formats schema x a n b m start end f
     known = box_frame formats schema x a n b m start end f h
 

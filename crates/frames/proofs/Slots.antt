@@ -17,10 +17,10 @@ use Rattle.array_data.specs.Tables.{Tables, part, place, offset_of, valid_of, fi
 use Rattle.array_data.proofs.lent_tables.Laws.{and_left, and_right, is_none, is_some}
 use Rattle.frames.specs.declared.Frame.{Frame}
 use Rattle.frames.specs.declared.Mask.{Mask}
-use Rattle.frames.specs.declared.Boxed.TheVariants as boxed
 use Rattle.frames.specs.Frames.{around, joined, Stop, is_number, counts, frame_of, widened, widened_by, framed}
 use Rattle.frames.specs.Slots.{mask_of, slot_row, Holds, slot_stop, slot_stops, Passed, no_mask, mask_from, mask_place, Placed, lent_stops}
 use Rattle.frames.specs.Box.{found}
+use Rattle.std.specs.Prelude.{Ok, Err}
 
 -- ---- one slot
 
@@ -128,10 +128,10 @@ module _ (g : ℕ → Stop) (n : ℕ) where
       ∙ ap (λ b. cond b (some (widened_by (frame_of (g r)) (seg g (r + 1) (n - (r + 1))))) (framed (seg g (r + 1) (n - (r + 1))))) (h r (omega arith))
       ∙ ap (λ k. framed (seg g k (n - k))) (add-one r)
 
-  pub all_passed : {r : ℕ} → Passed g n r → r ≡ n → boxed.Refused 17 ≡ found (framed (seg g 0 n))
+  pub all_passed : {r : ℕ} → Passed g n r → r ≡ n → Err 17 ≡ found (framed (seg g 0 n))
   all_passed {r} p e = ap found (sym (passes r p.some_left p.none_counts ∙ ap framed (no_row g r n (omega arith))))
 
-  pub first_counted : {r : ℕ} → Passed g n r → r < n → boxed.Within (widened_by (frame_of (g r)) (seg g (r + 1) (n - (r + 1)))) ≡ found (framed (seg g 0 n))
+  pub first_counted : {r : ℕ} → Passed g n r → r < n → Ok (widened_by (frame_of (g r)) (seg g (r + 1) (n - (r + 1)))) ≡ found (framed (seg g 0 n))
   first_counted {r} p l =
       ap found
       (sym

@@ -16,6 +16,7 @@ ghost use Rattle.frames.specs.Slots.{mask_of, Holds, slot_stop, slot_stops, Pass
 ghost use Rattle.frames.specs.Box.{is_double, found, box_of};
 
 use array_data::lent_tables;
+use number::Unsigned;
 
 // Smallest and largest latitude, smallest and largest longitude.
 #[derive(Clone, Copy)]
@@ -32,12 +33,6 @@ struct Mask {
     given: bool,
     at: usize,
     end: usize,
-}
-
-#[derive(Clone, Copy)]
-pub enum Boxed {
-    Within(Frame),
-    Refused(u8),
 }
 
 // The frame of two ranges from the frames of both, the left range's first.
@@ -81,7 +76,7 @@ fn float_at(values: &[u8], slot: usize) -> f64
     requires { (slot * 8 + 8 ≤ length values.now) × (nan_bits binary64 (item 8 values.now slot) ≡ false) }
     ensures { result ≡ of_bits binary64 (item 8 (was values) slot) }
 {
-    f64::from_bits(number::read_u64(values, slot * 8))
+    f64::from_bits(u64::read(values, slot * 8))
 }
 
 // Whether slot a of the latitudes and slot b of the longitudes are both a number.
@@ -101,8 +96,8 @@ fn counts(
 {
     let valid = is_valid(lat_mask, lat_masked, a);
     let valid2 = is_valid(lon_mask, lon_masked, b);
-    let number = is_number(number::read_u64(lat, a * 8));
-    let number2 = is_number(number::read_u64(lon, b * 8));
+    let number = is_number(u64::read(lat, a * 8));
+    let number2 = is_number(u64::read(lon, b * 8));
     valid & number & (valid2 & number2)
 }
 
@@ -138,8 +133,7 @@ fn pass_over(
     requires holds_2 { Holds lon.now lon_masked lon_mask.now (b + n) }
     ensures { Passed (λ k. slot_stop (was lat) (mask_of lat_masked (was lat_mask)) (was lon) (mask_of lon_masked (was lon_mask)) (a + k) (b + k)) n result }
 {
-    let mut k = 0;
-    while k < n {
+    for k in 0..n {
         if counts(
             lat,
             lat_mask,
@@ -152,9 +146,8 @@ fn pass_over(
         ) {
             return k;
         }
-        k += 1;
     }
-    k
+    n
 }
 
 // A frame, widened by slots a and b if they count.
@@ -197,8 +190,7 @@ fn widen_by(
     ensures { result ≡ widened_by f (slot_stops (was lat) (mask_of lat_masked (was lat_mask)) (was lon) (mask_of lon_masked (was lon_mask)) a b n) }
 {
     let mut frame = f;
-    let mut k = 0;
-    while k < n {
+    for k in 0..n {
         frame = widen_row(
             frame,
             lat,
@@ -210,7 +202,6 @@ fn widen_by(
             a + k,
             b + k,
         );
-        k += 1;
     }
     frame
 }
@@ -226,7 +217,7 @@ fn frame_rows(
     a: usize,
     b: usize,
     n: usize,
-) -> Boxed
+) -> Result<Frame, u8>
     requires holds { Holds lat.now lat_masked lat_mask.now (a + n) }
     requires holds_2 { Holds lon.now lon_masked lon_mask.now (b + n) }
     ensures { result ≡ found (framed (slot_stops (was lat) (mask_of lat_masked (was lat_mask)) (was lon) (mask_of lon_masked (was lon_mask)) a b n)) }
@@ -235,13 +226,13 @@ fn frame_rows(
         lat, lat_mask, lat_masked, lon, lon_mask, lon_masked, a, b, n,
     );
     if k == n {
-        return Boxed::Refused(17);
+        return Err(17);
     }
     let p = a + k;
     let q = b + k;
     let f = frame_at(lat, lon, p, q);
     let left = n - k - 1;
-    Boxed::Within(widen_by(
+    Ok(widen_by(
         f,
         lat,
         lat_mask,
@@ -288,7 +279,7 @@ fn frame_nodes(
     b: usize,
     start: usize,
     n: usize,
-) -> Boxed
+) -> Result<Frame, u8>
     requires a_bound { (a < 2 ^ 33) × (b < 2 ^ 33) }
     requires placed { Placed (tables lengths.now places.now body.now) a (offset_of (tables lengths.now [] []) a + start + n) }
     requires placed_2 { Placed (tables lengths.now places.now body.now) b (offset_of (tables lengths.now [] []) b + start + n) }
@@ -349,22 +340,22 @@ pub fn box_of(
     n_b: u32,
     start: u64,
     end: u64,
-) -> Boxed
+) -> Result<Frame, u8>
     ensures { result ≡ box_of (was formats) (was schema) (tables_of (was lengths) (was places) (was buffers) (was body)) first_a n_a first_b n_b start end }
 {
     let refusal = columns::column_pair::pair_ground(
         formats, schema, lengths, places, buffers, body, first_a, n_a, first_b, n_b,
     );
     if refusal != 0 {
-        return Boxed::Refused(refusal);
+        return Err(refusal);
     }
     let inside = columns::column_pair::is_range(lengths, first_a, start, end);
     let inside2 = columns::column_pair::is_range(lengths, first_b, start, end);
     if !(inside & inside2) {
-        return Boxed::Refused(2);
+        return Err(2);
     }
     if !are_doubles(formats, schema, first_a, n_a, first_b, n_b) {
-        return Boxed::Refused(10);
+        return Err(10);
     }
     let n = (end - start) as usize;
     frame_nodes(

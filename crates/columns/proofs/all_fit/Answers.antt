@@ -12,7 +12,7 @@ use Rattle.columns.proofs.Laws.{count_not, buffers_not, node_fits_lem}
 use Rattle.columns.proofs.all_fit.Goals as goal
 
 pub loop-i-init : goal.loop-i-init
-loop-i-init c = (omega arith, λ j h. absurd (omega arith))
+loop-i-init c = λ j h. absurd (omega arith)
 
 pub overflow_add-first : goal.overflow_add-first
 overflow_add-first c = omega arith
@@ -39,21 +39,15 @@ returns-then-not-has_few_buffers c =
     let x = tables z.lengths.now z.places.now [] in
     sym (every_not (node_fits z.formats.now z.schema.now x z.first) z.n l.i (omega arith) (buffers_not z.formats.now z.schema.now x z.first l.i (no c.has_few_buffers.ensures c.if-not-has_few_buffers.true-raw)))
 
-pub overflow_add-i : goal.overflow_add-i
-overflow_add-i c = omega arith
-
-pub loop-i-smaller : goal.loop-i-smaller
-loop-i-smaller c = omega arith
-
 pub loop-i-preserved : goal.loop-i-preserved
 unfolding count_fits few_buffers
 loop-i-preserved c =
     let z = c.args in
     let l = c.loop-i in
     let x = tables z.lengths.now z.places.now [] in
-    (omega arith, below_more _ _ l.invariant.1 (node_fits_lem z.formats.now z.schema.now x z.first l.i (yes c.count_fits.ensures c.if-not-count_fits.false-raw) (yes c.has_few_buffers.ensures c.if-not-has_few_buffers.false-raw)))
+    (below_more _ _ l.invariant (node_fits_lem z.formats.now z.schema.now x z.first l.i (yes c.count_fits.ensures c.if-not-count_fits.false-raw) (yes c.has_few_buffers.ensures c.if-not-has_few_buffers.false-raw)))
 
 pub returns : goal.returns
 returns c =
     let z = c.args in
-    sym (every_all (node_fits z.formats.now z.schema.now (tables z.lengths.now z.places.now []) z.first) z.n (λ j h. c.loop-i.invariant.1 j (omega arith)))
+    sym (every_all (node_fits z.formats.now z.schema.now (tables z.lengths.now z.places.now []) z.first) z.n (λ j h. c.loop-i.invariant j (omega arith)))

@@ -7,7 +7,4 @@ use Rattle.columns.specs.Grounds.{node_fits}
 use Rattle.columns.proofs.all_fit.Given as goal
 
 abbrev pub invariant-loop-i : goal.invariant-loop-i
-invariant-loop-i l = (l.i ≤ l.n) × ((j : ℕ) → j < l.i → node_fits l.formats l.schema (tables l.lengths l.places []) l.first j ≡ true)
-
-abbrev pub decreases-loop-i : goal.decreases-loop-i
-decreases-loop-i l = l.n - l.i
+invariant-loop-i l = (j : ℕ) → j < l.i → node_fits l.formats l.schema (tables l.lengths l.places []) l.first j ≡ true

@@ -15,7 +15,7 @@ use Rattle.columns.proofs.Laws.{at_source, of_source}
 use Rattle.columns.proofs.all_obey.Goals as goal
 
 pub loop-s-init : goal.loop-s-init
-loop-s-init c = (omega arith, λ j h. absurd (omega arith))
+loop-s-init c = λ j h. absurd (omega arith)
 
 pub first_of-from-requires : goal.first_of-from-requires
 first_of-from-requires c = omega arith
@@ -45,22 +45,16 @@ returns-then-not-source_ok c =
     let f = obeys z.formats.now z.schema.now (tables_of z.lengths.now z.places.now z.buffers.now z.body.now) in
     sym (every_not (of_source f z.sources.now) (source_count z.sources.now) l.s (omega arith) (no (at_source f z.sources.now l.s c.source_ok.ensures c.first_of-from.ensures c.nodes_of-size.ensures) c.if-not-source_ok.true-raw))
 
-pub overflow_add-s : goal.overflow_add-s
-overflow_add-s c = omega arith
-
-pub loop-s-smaller : goal.loop-s-smaller
-loop-s-smaller c = omega arith
-
 pub loop-s-preserved : goal.loop-s-preserved
 unfolding obeys
 loop-s-preserved c =
     let z = c.args in
     let l = c.loop-s in
     let f = obeys z.formats.now z.schema.now (tables_of z.lengths.now z.places.now z.buffers.now z.body.now) in
-    (omega arith, below_more (λ j. of_source f z.sources.now j ≡ true) l.s l.invariant.1 (yes (at_source f z.sources.now l.s c.source_ok.ensures c.first_of-from.ensures c.nodes_of-size.ensures) c.if-not-source_ok.false-raw))
+    (below_more (λ j. of_source f z.sources.now j ≡ true) l.s l.invariant (yes (at_source f z.sources.now l.s c.source_ok.ensures c.first_of-from.ensures c.nodes_of-size.ensures) c.if-not-source_ok.false-raw))
 
 pub returns : goal.returns
 unfolding all_obey obeys
 returns c =
     let z = c.args in
-    sym (every_all (of_source (obeys z.formats.now z.schema.now (tables_of z.lengths.now z.places.now z.buffers.now z.body.now)) z.sources.now) (source_count z.sources.now) (λ j h. c.loop-s.invariant.1 j (omega arith)))
+    sym (every_all (of_source (obeys z.formats.now z.schema.now (tables_of z.lengths.now z.places.now z.buffers.now z.body.now)) z.sources.now) (source_count z.sources.now) (λ j h. c.loop-s.invariant j (omega arith)))

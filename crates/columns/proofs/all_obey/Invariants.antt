@@ -8,7 +8,4 @@ use Rattle.columns.proofs.Laws.{of_source}
 use Rattle.columns.proofs.all_obey.Given as goal
 
 abbrev pub invariant-loop-s : goal.invariant-loop-s
-invariant-loop-s l = (l.s ≤ source_count l.sources) × ((j : ℕ) → j < l.s → of_source (obeys l.formats l.schema (tables_of l.lengths l.places l.buffers l.body)) l.sources j ≡ true)
-
-abbrev pub decreases-loop-s : goal.decreases-loop-s
-decreases-loop-s l = source_count l.sources - l.s
+invariant-loop-s l = (j : ℕ) → j < l.s → of_source (obeys l.formats l.schema (tables_of l.lengths l.places l.buffers l.body)) l.sources j ≡ true

@@ -25,7 +25,7 @@ pub overflow_cast-nodes : goal.overflow_cast-nodes
 overflow_cast-nodes c = omega arith
 
 pub loop-s-init : goal.loop-s-init
-loop-s-init c = (omega arith, c.first_of-first.ensures, c.nodes_of-nodes.ensures, λ j h. absurd (omega arith))
+loop-s-init c = (c.first_of-first.ensures, c.nodes_of-nodes.ensures, λ j h. absurd (omega arith))
 
 pub first_of-first2-requires : goal.first_of-first2-requires
 first_of-first2-requires c = omega arith
@@ -48,23 +48,17 @@ returns-then-not-same_type c =
     let z = c.args in
     let l = c.loop-s in
     let f = same_type z.formats.now z.schema.now (first_of z.sources.now 0) (nodes_of z.sources.now 0) in
-    sym (every_not (of_source f z.sources.now) (source_count z.sources.now) l.s (omega arith) (no (at_source f z.sources.now l.s (first_is z.formats.now z.schema.now z.sources.now _ _ l.invariant.1 l.invariant.2 c.same_type.ensures) c.first_of-first2.ensures c.nodes_of-nodes2.ensures) c.if-not-same_type.true-raw))
-
-pub overflow_add-s : goal.overflow_add-s
-overflow_add-s c = omega arith
-
-pub loop-s-smaller : goal.loop-s-smaller
-loop-s-smaller c = omega arith
+    sym (every_not (of_source f z.sources.now) (source_count z.sources.now) l.s (omega arith) (no (at_source f z.sources.now l.s (first_is z.formats.now z.schema.now z.sources.now _ _ l.invariant.0 l.invariant.1 c.same_type.ensures) c.first_of-first2.ensures c.nodes_of-nodes2.ensures) c.if-not-same_type.true-raw))
 
 pub loop-s-preserved : goal.loop-s-preserved
 loop-s-preserved c =
     let z = c.args in
     let l = c.loop-s in
     let f = same_type z.formats.now z.schema.now (first_of z.sources.now 0) (nodes_of z.sources.now 0) in
-    (omega arith, l.invariant.1, l.invariant.2, below_more (λ j. of_source f z.sources.now j ≡ true) l.s l.invariant.3 (yes (at_source f z.sources.now l.s (first_is z.formats.now z.schema.now z.sources.now _ _ l.invariant.1 l.invariant.2 c.same_type.ensures) c.first_of-first2.ensures c.nodes_of-nodes2.ensures) c.if-not-same_type.false-raw))
+    (l.invariant.0, l.invariant.1, below_more (λ j. of_source f z.sources.now j ≡ true) l.s l.invariant.2 (yes (at_source f z.sources.now l.s (first_is z.formats.now z.schema.now z.sources.now _ _ l.invariant.0 l.invariant.1 c.same_type.ensures) c.first_of-first2.ensures c.nodes_of-nodes2.ensures) c.if-not-same_type.false-raw))
 
 pub returns : goal.returns
 unfolding all_same
 returns c =
     let z = c.args in
-    sym (every_all (of_source (same_type z.formats.now z.schema.now (first_of z.sources.now 0) (nodes_of z.sources.now 0)) z.sources.now) (source_count z.sources.now) (λ j h. c.loop-s.invariant.3 j (omega arith)))
+    sym (every_all (of_source (same_type z.formats.now z.schema.now (first_of z.sources.now 0) (nodes_of z.sources.now 0)) z.sources.now) (source_count z.sources.now) (λ j h. c.loop-s.invariant.2 j (omega arith)))

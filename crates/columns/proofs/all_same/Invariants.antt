@@ -7,7 +7,4 @@ use Rattle.columns.proofs.Laws.{of_source}
 use Rattle.columns.proofs.all_same.Given as goal
 
 abbrev pub invariant-loop-s : goal.invariant-loop-s
-invariant-loop-s l = (l.s ≤ source_count l.sources) × (l.first ≡ first_of l.sources 0) × (l.nodes ≡ nodes_of l.sources 0) × ((j : ℕ) → j < l.s → of_source (same_type l.formats l.schema (first_of l.sources 0) (nodes_of l.sources 0)) l.sources j ≡ true)
-
-abbrev pub decreases-loop-s : goal.decreases-loop-s
-decreases-loop-s l = source_count l.sources - l.s
+invariant-loop-s l = (l.first ≡ first_of l.sources 0) × (l.nodes ≡ nodes_of l.sources 0) × ((j : ℕ) → j < l.s → of_source (same_type l.formats l.schema (first_of l.sources 0) (nodes_of l.sources 0)) l.sources j ≡ true)

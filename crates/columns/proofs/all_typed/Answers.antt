@@ -13,7 +13,7 @@ use Rattle.columns.proofs.Laws.{at_source, of_source}
 use Rattle.columns.proofs.all_typed.Goals as goal
 
 pub loop-s-init : goal.loop-s-init
-loop-s-init c = (omega arith, λ j h. absurd (omega arith))
+loop-s-init c = λ j h. absurd (omega arith)
 
 pub first_of-first-requires : goal.first_of-first-requires
 first_of-first-requires c = omega arith
@@ -38,21 +38,15 @@ returns-then-not-is_typed c =
     let f = typed z.formats.now z.schema.now in
     sym (every_not (of_source f z.sources.now) (source_count z.sources.now) l.s (omega arith) (no (at_source f z.sources.now l.s c.is_typed.ensures c.first_of-first.ensures c.nodes_of-nodes.ensures) c.if-not-is_typed.true-raw))
 
-pub overflow_add-s : goal.overflow_add-s
-overflow_add-s c = omega arith
-
-pub loop-s-smaller : goal.loop-s-smaller
-loop-s-smaller c = omega arith
-
 pub loop-s-preserved : goal.loop-s-preserved
 loop-s-preserved c =
     let z = c.args in
     let l = c.loop-s in
     let f = typed z.formats.now z.schema.now in
-    (omega arith, below_more (λ j. of_source f z.sources.now j ≡ true) l.s l.invariant.1 (yes (at_source f z.sources.now l.s c.is_typed.ensures c.first_of-first.ensures c.nodes_of-nodes.ensures) c.if-not-is_typed.false-raw))
+    (below_more (λ j. of_source f z.sources.now j ≡ true) l.s l.invariant (yes (at_source f z.sources.now l.s c.is_typed.ensures c.first_of-first.ensures c.nodes_of-nodes.ensures) c.if-not-is_typed.false-raw))
 
 pub returns : goal.returns
 unfolding all_typed
 returns c =
     let z = c.args in
-    sym (every_all (of_source (typed z.formats.now z.schema.now) z.sources.now) (source_count z.sources.now) (λ j h. c.loop-s.invariant.1 j (omega arith)))
+    sym (every_all (of_source (typed z.formats.now z.schema.now) z.sources.now) (source_count z.sources.now) (λ j h. c.loop-s.invariant j (omega arith)))

@@ -7,7 +7,4 @@ use Rattle.columns.proofs.Laws.{of_source}
 use Rattle.columns.proofs.all_typed.Given as goal
 
 abbrev pub invariant-loop-s : goal.invariant-loop-s
-invariant-loop-s l = (l.s ≤ source_count l.sources) × ((j : ℕ) → j < l.s → of_source (typed l.formats l.schema) l.sources j ≡ true)
-
-abbrev pub decreases-loop-s : goal.decreases-loop-s
-decreases-loop-s l = source_count l.sources - l.s
+invariant-loop-s l = (j : ℕ) → j < l.s → of_source (typed l.formats l.schema) l.sources j ≡ true

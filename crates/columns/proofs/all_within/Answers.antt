@@ -14,7 +14,7 @@ use Rattle.columns.proofs.Laws.{at_source, of_source}
 use Rattle.columns.proofs.all_within.Goals as goal
 
 pub loop-s-init : goal.loop-s-init
-loop-s-init c = (omega arith, λ j h. absurd (omega arith))
+loop-s-init c = λ j h. absurd (omega arith)
 
 pub first_of-first-requires : goal.first_of-first-requires
 first_of-first-requires c = omega arith
@@ -33,21 +33,15 @@ returns-then-not-is_within c =
     let f = within_ceilings z.formats.now z.schema.now (tables z.lengths.now z.places.now []) in
     sym (every_not (of_source f z.sources.now) (source_count z.sources.now) l.s (omega arith) (no (at_source f z.sources.now l.s c.is_within.ensures c.first_of-first.ensures c.nodes_of-nodes.ensures) c.if-not-is_within.true-raw))
 
-pub overflow_add-s : goal.overflow_add-s
-overflow_add-s c = omega arith
-
-pub loop-s-smaller : goal.loop-s-smaller
-loop-s-smaller c = omega arith
-
 pub loop-s-preserved : goal.loop-s-preserved
 loop-s-preserved c =
     let z = c.args in
     let l = c.loop-s in
     let f = within_ceilings z.formats.now z.schema.now (tables z.lengths.now z.places.now []) in
-    (omega arith, below_more (λ j. of_source f z.sources.now j ≡ true) l.s l.invariant.1 (yes (at_source f z.sources.now l.s c.is_within.ensures c.first_of-first.ensures c.nodes_of-nodes.ensures) c.if-not-is_within.false-raw))
+    (below_more (λ j. of_source f z.sources.now j ≡ true) l.s l.invariant (yes (at_source f z.sources.now l.s c.is_within.ensures c.first_of-first.ensures c.nodes_of-nodes.ensures) c.if-not-is_within.false-raw))
 
 pub returns : goal.returns
 unfolding all_within
 returns c =
     let z = c.args in
-    sym (every_all (of_source (within_ceilings z.formats.now z.schema.now (tables z.lengths.now z.places.now [])) z.sources.now) (source_count z.sources.now) (λ j h. c.loop-s.invariant.1 j (omega arith)))
+    sym (every_all (of_source (within_ceilings z.formats.now z.schema.now (tables z.lengths.now z.places.now [])) z.sources.now) (source_count z.sources.now) (λ j h. c.loop-s.invariant j (omega arith)))

@@ -17,18 +17,18 @@ is_valid-valid2-requires c = λ h. let l = c.requires.holds_2.marks h in omega (
 pub overflow_mul-a : goal.overflow_mul-a
 overflow_mul-a c = omega (arith, c.requires.holds.numbers)
 
-pub read_u64-requires : goal.read_u64-requires
-read_u64-requires c = omega (arith, c.requires.holds.numbers)
+pub read-requires : goal.read-requires
+read-requires c = omega (arith, c.requires.holds.numbers)
 
 pub overflow_mul-b : goal.overflow_mul-b
 overflow_mul-b c = omega (arith, c.requires.holds_2.numbers)
 
-pub read_u64-requires-2 : goal.read_u64-requires-2
-read_u64-requires-2 c = omega (arith, c.requires.holds_2.numbers)
+pub read-requires-2 : goal.read-requires-2
+read-requires-2 c = omega (arith, c.requires.holds_2.numbers)
 
 pub returns : goal.returns
 unfolding item
 returns c =
     ap₂ ◌&&◌
-    (ap₂ ◌&&◌ c.is_valid-valid.ensures (c.is_number-number.ensures ∙ ap (λ p. not (nan_bits binary64 p)) c.read_u64.ensures) ∙ slot_number (ok (mask_of c.args.lat_masked c.args.lat_mask.now) c.args.a) (item 8 c.args.lat.now c.args.a))
-    (ap₂ ◌&&◌ c.is_valid-valid2.ensures (c.is_number-number2.ensures ∙ ap (λ p. not (nan_bits binary64 p)) c.read_u64-2.ensures) ∙ slot_number (ok (mask_of c.args.lon_masked c.args.lon_mask.now) c.args.b) (item 8 c.args.lon.now c.args.b))
+    (ap₂ ◌&&◌ c.is_valid-valid.ensures (c.is_number-number.ensures ∙ ap (λ p. not (nan_bits binary64 p)) c.read.ensures) ∙ slot_number (ok (mask_of c.args.lat_masked c.args.lat_mask.now) c.args.a) (item 8 c.args.lat.now c.args.a))
+    (ap₂ ◌&&◌ c.is_valid-valid2.ensures (c.is_number-number2.ensures ∙ ap (λ p. not (nan_bits binary64 p)) c.read-2.ensures) ∙ slot_number (ok (mask_of c.args.lon_masked c.args.lon_mask.now) c.args.b) (item 8 c.args.lon.now c.args.b))

@@ -9,13 +9,13 @@ use Rattle.frames.proofs.float_at.Goals as goal
 pub overflow_mul-slot : goal.overflow_mul-slot
 overflow_mul-slot c = omega arith
 
-pub read_u64-requires : goal.read_u64-requires
-read_u64-requires c = c.requires.0
+pub read-requires : goal.read-requires
+read-requires c = c.requires.0
 
 pub float_from_bits-result : goal.float_from_bits-result
 unfolding item
-float_from_bits-result c = not_nan binary64 _ (ap (nan_bits binary64) c.read_u64.ensures ∙ c.requires.1)
+float_from_bits-result c = not_nan binary64 _ (ap (nan_bits binary64) c.read.ensures ∙ c.requires.1)
 
 pub returns : goal.returns
 unfolding item
-returns c = ap (of_bits binary64) c.read_u64.ensures
+returns c = ap (of_bits binary64) c.read.ensures

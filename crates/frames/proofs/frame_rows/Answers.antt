@@ -3,10 +3,10 @@ use mathlib.Core.Path.{◌≡◌, ap, ap₂, ◌∙◌}
 use Prim.Native.Nat.{◌+◌, ◌-◌, ◌<◌}
 use native.Mathlib.Omega.{arith}
 use Rattle.columnar.specs.Row.{seg}
-use Rattle.frames.specs.declared.Boxed.TheVariants as boxed
 use Rattle.frames.specs.Frames.{widened_by}
 use Rattle.frames.specs.Slots.{mask_of, slot_stop}
 use Rattle.frames.proofs.Slots.{fewer, lat_known, lon_known, its_frame, rows_behind, all_passed, first_counted}
+use Rattle.std.specs.Prelude.{Ok}
 use Rattle.frames.proofs.frame_rows.Goals as goal
 
 pub pass_over-k-requires : goal.pass_over-k-requires
@@ -63,4 +63,4 @@ returns c =
     let left : z.n - k - 1 ≡ z.n - (k + 1) = omega arith in
     let f = c.frame_at-f.ensures ∙ its_frame z.lat.now (mask_of z.lat_masked z.lat_mask.now) z.lon.now (mask_of z.lon_masked z.lon_mask.now) (z.a + k) (z.b + k) h in
     let rows = rows_behind z.lat.now (mask_of z.lat_masked z.lat_mask.now) z.lon.now (mask_of z.lon_masked z.lon_mask.now) z.a z.b k (z.n - k - 1) ∙ ap (seg (λ j. slot_stop z.lat.now (mask_of z.lat_masked z.lat_mask.now) z.lon.now (mask_of z.lon_masked z.lon_mask.now) (z.a + j) (z.b + j)) (k + 1)) left in
-    ap boxed.Within (c.widen_by.ensures ∙ ap₂ widened_by f rows) ∙ first_counted (λ j. slot_stop z.lat.now (mask_of z.lat_masked z.lat_mask.now) z.lon.now (mask_of z.lon_masked z.lon_mask.now) (z.a + j) (z.b + j)) z.n c.pass_over-k.ensures l
+    ap Ok (c.widen_by.ensures ∙ ap₂ widened_by f rows) ∙ first_counted (λ j. slot_stop z.lat.now (mask_of z.lat_masked z.lat_mask.now) z.lon.now (mask_of z.lon_masked z.lon_mask.now) (z.a + j) (z.b + j)) z.n c.pass_over-k.ensures l

@@ -9,7 +9,7 @@ use Rattle.frames.proofs.Slots.{fewer}
 use Rattle.frames.proofs.pass_over.Goals as goal
 
 pub loop-k-init : goal.loop-k-init
-loop-k-init c = (omega arith, λ j l. absurd (omega arith))
+loop-k-init c = λ j l. absurd (omega arith)
 
 pub overflow_add-a : goal.overflow_add-a
 overflow_add-a c = omega (arith, c.requires.holds.numbers)
@@ -21,16 +21,10 @@ pub counts-requires : goal.counts-requires
 counts-requires c = record { holds = fewer _ c.requires.holds (omega arith); holds_2 = fewer _ c.requires.holds_2 (omega arith) }
 
 pub returns-then-counts : goal.returns-then-counts
-returns-then-counts c = record { some_left = omega arith; none_counts = c.loop-k.invariant.1; next_counts = λ l. sym c.counts.ensures ∙ c.if-counts.true }
-
-pub overflow_add-k : goal.overflow_add-k
-overflow_add-k c = omega arith
-
-pub loop-k-smaller : goal.loop-k-smaller
-loop-k-smaller c = omega arith
+returns-then-counts c = record { some_left = omega arith; none_counts = c.loop-k.invariant; next_counts = λ l. sym c.counts.ensures ∙ c.if-counts.true }
 
 pub loop-k-preserved : goal.loop-k-preserved
-loop-k-preserved c = (omega arith, below_more _ _ c.loop-k.invariant.1 (sym c.counts.ensures ∙ c.if-counts.false))
+loop-k-preserved c = (below_more _ _ c.loop-k.invariant (sym c.counts.ensures ∙ c.if-counts.false))
 
 pub returns : goal.returns
-returns c = record { some_left = c.loop-k.invariant.0; none_counts = c.loop-k.invariant.1; next_counts = λ l. absurd (omega arith) }
+returns c = record { some_left = omega arith; none_counts = λ j l. c.loop-k.invariant j (omega arith); next_counts = λ l. absurd (omega arith) }

@@ -7,7 +7,4 @@ use Rattle.frames.proofs.pass_over.Given as goal
 
 abbrev pub invariant-loop-k : goal.invariant-loop-k
 invariant-loop-k l =
-    (l.k ≤ l.n) × ((j : ℕ) → j < l.k → counts (slot_stop l.lat (mask_of l.lat_masked l.lat_mask) l.lon (mask_of l.lon_masked l.lon_mask) (l.a + j) (l.b + j)) ≡ false)
-
-abbrev pub decreases-loop-k : goal.decreases-loop-k
-decreases-loop-k l = l.n - l.k
+    (j : ℕ) → j < l.k → counts (slot_stop l.lat (mask_of l.lat_masked l.lat_mask) l.lon (mask_of l.lon_masked l.lon_mask) (l.a + j) (l.b + j)) ≡ false

@@ -9,7 +9,7 @@ use Rattle.frames.proofs.widen_by.Goals as goal
 pub loop-k-init : goal.loop-k-init
 loop-k-init c =
     let z = c.args in
-    (omega arith, rows_start (λ j. slot_stop z.lat.now (mask_of z.lat_masked z.lat_mask.now) z.lon.now (mask_of z.lon_masked z.lon_mask.now) (z.a + j) (z.b + j)) z.f z.n)
+    (rows_start (λ j. slot_stop z.lat.now (mask_of z.lat_masked z.lat_mask.now) z.lon.now (mask_of z.lon_masked z.lon_mask.now) (z.a + j) (z.b + j)) z.f z.n)
 
 pub overflow_add-a : goal.overflow_add-a
 overflow_add-a c = omega (arith, c.requires.holds.numbers)
@@ -20,18 +20,12 @@ overflow_add-b c = omega (arith, c.requires.holds_2.numbers)
 pub widen_row-frame-requires : goal.widen_row-frame-requires
 widen_row-frame-requires c = record { holds = fewer _ c.requires.holds (omega arith); holds_2 = fewer _ c.requires.holds_2 (omega arith) }
 
-pub overflow_add-k : goal.overflow_add-k
-overflow_add-k c = omega arith
-
-pub loop-k-smaller : goal.loop-k-smaller
-loop-k-smaller c = omega arith
-
 pub loop-k-preserved : goal.loop-k-preserved
 loop-k-preserved c =
     let z = c.args in
-    (omega arith, sym (rows_next (λ j. slot_stop z.lat.now (mask_of z.lat_masked z.lat_mask.now) z.lon.now (mask_of z.lon_masked z.lon_mask.now) (z.a + j) (z.b + j)) c.loop-k.frame c.widen_row-frame.result c.loop-k.k z.n (omega arith) c.widen_row-frame.ensures) ∙ c.loop-k.invariant.1)
+    (sym (rows_next (λ j. slot_stop z.lat.now (mask_of z.lat_masked z.lat_mask.now) z.lon.now (mask_of z.lon_masked z.lon_mask.now) (z.a + j) (z.b + j)) c.loop-k.frame c.widen_row-frame.result c.loop-k.k z.n (omega arith) c.widen_row-frame.ensures) ∙ c.loop-k.invariant)
 
 pub returns : goal.returns
 returns c =
     let z = c.args in
-    rows_done (λ j. slot_stop z.lat.now (mask_of z.lat_masked z.lat_mask.now) z.lon.now (mask_of z.lon_masked z.lon_mask.now) (z.a + j) (z.b + j)) c.loop-k.frame _ c.loop-k.k z.n (omega arith) c.loop-k.invariant.1
+    rows_done (λ j. slot_stop z.lat.now (mask_of z.lat_masked z.lat_mask.now) z.lon.now (mask_of z.lon_masked z.lon_mask.now) (z.a + j) (z.b + j)) c.loop-k.frame _ c.loop-k.k z.n (omega arith) c.loop-k.invariant
