@@ -1,15 +1,12 @@
 -- The rule of a node by its code, and what its shape says. Assumes nothing.
 use mathlib.Core.Path.{◌≡◌, refl, sym, ap, subst, ◌∙◌}
 use mathlib.Core.Bool.{Bool, true, false, ◌&&◌, ◌||◌, false≢true}
-use mathlib.Core.Logic.{◌⊎◌, inl, inr}
-use mathlib.Core.List.{List, Memᴰ}
-use mathlib.Core.Option.{Option, none, some}
-use Prim.Native.Nat.{ℕ, zero, suc, ◌+◌, ◌*◌, ◌-◌, ◌≤◌, ◌<◌, ◌^◌}
+use mathlib.Core.List.{List}
+use mathlib.Core.Option.{some}
+use Prim.Native.Nat.{ℕ, zero, suc, ◌+◌, ◌*◌, ◌<◌, ◌^◌}
 use native.Mathlib.Omega.{arith}
-use lib.ListN.{length, take, drop, get_or}
-use lib.Seq.{take_at}
+use lib.ListN.{get_or}
 use lib.Dec.{eqb}
-use borrow.Author.Tests.{eq-eqb, ne_eqb}
 use Rattle.columnar.specs.Types.{Number, width, Plain, fixed, string}
 use Rattle.columnar.specs.Test.{every}
 use Rattle.columnar.specs.Formed.{OffsetWidth, RunWidth}
@@ -19,15 +16,15 @@ use Rattle.schema.proofs.formats.Types.{number_width, fixed_number}
 use Rattle.schema.specs.union_ids.Ids.{answer_of, written}
 use Rattle.schema.specs.Tree.{field, children, dictionary, below, bare, child_for_each, end_of, child_at, whole, code_of, ids_of, values_shape, leaf_shape, keys_shape, list_shape, union_shape, run_shape, shape, typed}
 use Rattle.schema.proofs.Trees.{child_inside}
-use Rattle.schema.proofs.Known.{typed_whole, typed_shape}
-use Rattle.array_data.specs.Tables.{Tables, length_of}
-use Rattle.array_data.specs.Rules.{fixed_rule, string_rule, view_rule, list_view_rule, list_rule, sparse_rule, dense_rule, run_end_rule, dictionary_rule}
+use Rattle.schema.proofs.Known.{typed_whole}
+use Rattle.array_data.specs.Tables.{Tables}
+use Rattle.array_data.specs.Rules.{string_rule, view_rule, list_view_rule, list_rule, sparse_rule, dense_rule, run_end_rule}
 use Rattle.array_data.specs.NodeKinds.{NodeKind, fixed_node, string_node, view_node, list_view_node, list_node, sparse_node, dense_node, run_end_node, dictionary_node, kind_at}
-use Rattle.array_data.specs.Typed.{field_of, node_of, child_node, tables_from, kind_rule, node_rule}
+use Rattle.array_data.specs.Typed.{node_of, tables_from, kind_rule, node_rule}
 use Rattle.array_data.specs.type_tree.Lent.{tree_of}
-use Rattle.array_data.proofs.type_tree.Ids.{both, field_in_lem}
+use Rattle.array_data.proofs.type_tree.Ids.{both}
 use Rattle.array_data.proofs.type_tree.Shaped.{later, string_width, list_width, lists_width, integer_fixed, plain_kind, Shaped, of_plain_lem, of_view, of_list, of_lists_lem, of_sparse, of_dense, of_run_lem, of_dictionary, at_fixed, at_keys, at_string, at_view, at_list, at_lists, at_union, at_run, five, shaped}
-use Rattle.array_data.proofs.type_tree.Lent.{child_same, first_child}
+use Rattle.array_data.proofs.type_tree.Lent.{first_child}
 use Rattle.array_data.specs.lent_tables.Lent.{tables, Counted}
 use Rattle.source_rules.specs.kinds.Rows.{tables_of}
 use Rattle.source_rules.specs.Source.{Ready, number_rule}

@@ -1,5 +1,5 @@
 -- The ids and children of a union node. Assumes nothing.
-use mathlib.Core.Path.{◌≡◌, refl, sym, ap, subst, ◌∙◌}
+use mathlib.Core.Path.{◌≡◌, refl, sym, ap, ◌∙◌}
 use mathlib.Core.Bool.{Bool, true, false, false≢true}
 use mathlib.Core.List.{List, Memᴰ}
 use mathlib.Core.Option.{Option, none, some}
@@ -17,8 +17,7 @@ use Rattle.schema.specs.Tree.{field, child_at, code_of, ids_of, shape}
 use Rattle.schema.proofs.Laws.{no_ids}
 use Rattle.array_data.specs.Tables.{Tables, length_of}
 use Rattle.array_data.specs.Rules.{sparse_rule, dense_rule}
-use Rattle.array_data.specs.Typed.{field_of, child_node}
-use Rattle.array_data.specs.type_tree.Lent.{tree_of}
+use Rattle.array_data.specs.Typed.{field_of}
 use Rattle.array_data.proofs.type_tree.Ids.{field_in_lem}
 use Rattle.array_data.proofs.type_tree.Lent.{child_same}
 use Rattle.source_rules.proofs.Node.{rule, child_of_id, sparse_node_lem, dense_node_lem, union_each}

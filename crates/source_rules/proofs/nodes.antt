@@ -1,3 +1,3 @@
 -- What the proofs of `source_rules::nodes` go by.
 pub mod Laws
-pub mod Ends
+pub mod RunEnds

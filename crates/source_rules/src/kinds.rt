@@ -5,12 +5,12 @@ ghost use Rattle.std.proofs.Math.Option.{some};
 ghost use Rattle.clauses.specs.Slices.{was};
 ghost use Rattle.columnar.specs.Types.{Number, width, limit};
 ghost use Rattle.schema.specs.formats.Types.{number_of};
-ghost use Rattle.row_rules.specs.slots.Slots.{keys_below, valid_keys_below};
 ghost use Rattle.array_data.specs.Rules.{one_in, two_in, buffers_in, view_rule, dictionary_rule, sparse_rule, dense_rule};
 ghost use Rattle.array_data.specs.lent_tables.Lent.{tables, Counted, mask_of};
 ghost use Rattle.source_rules.specs.kinds.Rows.{tables_of, Ready, Children, view_rows, key_rows, reach, sparse_rows, dense_rows};
 
 use array_data::lent_tables;
+use number::Unsigned;
 use row_rules::slots;
 
 // One more than the largest key by code, from code 0 on; of the keys of code 8 the largest itself, as a u64 has no number above it.
@@ -38,13 +38,11 @@ fn buffers_in(places: &[u64], buffers: &[u64], body: &[u8], k: usize) -> bool
     if !lent_tables::fits(first, count, (buffers.len() / 2) as u64) {
         return false;
     }
-    let mut i = 0;
-    while i < count as usize {
+    for i in 0..count as usize {
         let at = 2 * ((first as usize) + i);
         if !lent_tables::in_body(body, buffers[at], buffers[at + 1]) {
             return false;
         }
-        i += 1;
     }
     true
 }
@@ -95,63 +93,40 @@ fn key_bound(code: u8, values: u64) -> u64
     if 10 < c {
         return 0;
     }
-    let top = LIMITS[c];
-    if top < values { top } else { values }
+    LIMITS[c].min(values)
 }
 
-// Whether each of the n keys of w bytes at `at` is below bound.
-fn keys_below(body: &[u8], at: usize, n: usize, w: u8, bound: u64) -> bool
-    requires { at + w * n ≤ length body.now }
-    ensures { (m : Number) → width m ≡ w → result ≡ keys_below w (was body) at bound n }
-{
-    match w {
-        1 => slots::keys_below_u8(body, at, n, bound),
-        2 => slots::keys_below_u16(body, at, n, bound),
-        4 => slots::keys_below_u32(body, at, n, bound),
-        8 => slots::keys_below_u64(body, at, n, bound),
-        _ => false,
-    }
-}
-
-// The same of the keys whose validity bit is 1: bit a of those from the byte `from` on is the first key's.
-fn valid_keys_below(
-    body: &[u8],
-    at: usize,
-    n: usize,
-    w: u8,
-    bound: u64,
-    from: usize,
-    a: usize,
-) -> bool
-    requires { (at + w * n ≤ length body.now) × (8 * from + a + n ≤ 8 * length body.now) × (a + n < 2 ^ 64) }
-    ensures { (m : Number) → width m ≡ w → result ≡ valid_keys_below w (was body) at bound from a n }
-{
-    match w {
-        1 => slots::valid_keys_below_u8(body, at, n, bound, from, a),
-        2 => slots::valid_keys_below_u16(body, at, n, bound, from, a),
-        4 => slots::valid_keys_below_u32(body, at, n, bound, from, a),
-        8 => slots::valid_keys_below_u64(body, at, n, bound, from, a),
-        _ => false,
-    }
-}
-
-// Whether the keys of node k, of w bytes, are below bound, null rows left out.
-fn key_rows(lengths: &[u64], places: &[u64], body: &[u8], k: usize, w: u8, bound: u64) -> bool
+// Whether the keys of node k are below bound, null rows left out.
+fn key_rows<N: Unsigned>(lengths: &[u64], places: &[u64], body: &[u8], k: usize, bound: u64) -> bool
     requires { Ready (tables lengths.now places.now body.now) k }
-    ensures { (m : Number) → width m ≡ w → result ≡ key_rows (tables (was lengths) (was places) (was body)) k w bound }
+    ensures { result ≡ key_rows (tables (was lengths) (was places) (was body)) k N.SIZE bound }
 {
     let count = lent_tables::count_of(lengths, k);
-    if !lent_tables::rows_fit(count, w, lent_tables::place(places, k, 4)) {
+    if !lent_tables::rows_fit(count, N::SIZE as u8, lent_tables::place(places, k, 4)) {
         return false;
     }
     let off = lent_tables::offset_of(lengths, k) as usize;
     let n = lent_tables::length_of(lengths, k) as usize;
-    let at = (lent_tables::place(places, k, 3) as usize) + (w as usize) * off;
+    let at = (lent_tables::place(places, k, 3) as usize) + N::SIZE * off;
     if lent_tables::place(places, k, 0) == 0 {
-        return keys_below(body, at, n, w, bound);
+        return slots::keys_below::<N>(body, at, n, bound);
     }
     let from = lent_tables::place(places, k, 1) as usize;
-    valid_keys_below(body, at, n, w, bound, from, off)
+    slots::valid_keys_below::<N>(body, at, n, bound, from, off)
+}
+
+// The same of keys of w bytes.
+fn keys_ok(lengths: &[u64], places: &[u64], body: &[u8], k: usize, w: u8, bound: u64) -> bool
+    requires { Ready (tables lengths.now places.now body.now) k }
+    ensures { (m : Number) → width m ≡ w → result ≡ key_rows (tables (was lengths) (was places) (was body)) k w bound }
+{
+    match w {
+        1 => key_rows::<u8>(lengths, places, body, k, bound),
+        2 => key_rows::<u16>(lengths, places, body, k, bound),
+        4 => key_rows::<u32>(lengths, places, body, k, bound),
+        8 => key_rows::<u64>(lengths, places, body, k, bound),
+        _ => false,
+    }
 }
 
 // The rule of a dictionary node by the code of its keys' format; its values are the next node.
@@ -166,7 +141,7 @@ pub fn dictionary_rule(lengths: &[u64], places: &[u64], body: &[u8], k: usize, c
         return false;
     }
     let bound = key_bound(code, lent_tables::length_of(lengths, k + 1));
-    key_rows(
+    keys_ok(
         lengths,
         places,
         body,
@@ -188,13 +163,10 @@ fn no_mask(lengths: &[u64], places: &[u64], body: &[u8], k: usize) -> bool
 fn children_reach(ids: &[u8], lens: &[u64], count: u64) -> bool
     ensures { result ≡ reach (was ids) (was lens) count }
 {
-    let mut i = 0;
-    while i < ids.len() {
-        let f = slots::field_of(ids, ids[i]);
-        if lent_tables::at_u64(lens, f) < count {
+    for &id in ids {
+        if lent_tables::at_u64(lens, slots::field_of(ids, id)) < count {
             return false;
         }
-        i += 1;
     }
     true
 }

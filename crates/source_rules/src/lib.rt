@@ -40,9 +40,9 @@ fn string_ok(lengths: &[u64], places: &[u64], body: &[u8], k: usize, w: u8) -> b
     ensures { result ≡ string_rule (tables (was lengths) (was places) (was body)) k w }
 {
     if w == 4 {
-        return nodes::string_rule_i32(lengths, places, body, k);
+        return nodes::string_rule::<u32>(lengths, places, body, k);
     }
-    nodes::string_rule_i64(lengths, places, body, k)
+    nodes::string_rule::<u64>(lengths, places, body, k)
 }
 
 // The rule of a list-view node with offsets and sizes of w bytes.
@@ -51,9 +51,9 @@ fn list_view_ok(lengths: &[u64], places: &[u64], body: &[u8], k: usize, w: u8) -
     ensures { result ≡ list_view_rule (tables (was lengths) (was places) (was body)) k w }
 {
     if w == 4 {
-        return nodes::list_view_rule_i32(lengths, places, body, k);
+        return nodes::list_view_rule::<u32>(lengths, places, body, k);
     }
-    nodes::list_view_rule_i64(lengths, places, body, k)
+    nodes::list_view_rule::<u64>(lengths, places, body, k)
 }
 
 // The rule of a list node with offsets of w bytes.
@@ -62,9 +62,9 @@ fn list_ok(lengths: &[u64], places: &[u64], body: &[u8], k: usize, w: u8) -> boo
     ensures { result ≡ list_rule (tables (was lengths) (was places) (was body)) k w }
 {
     if w == 4 {
-        return nodes::list_rule_i32(lengths, places, body, k);
+        return nodes::list_rule::<u32>(lengths, places, body, k);
     }
-    nodes::list_rule_i64(lengths, places, body, k)
+    nodes::list_rule::<u64>(lengths, places, body, k)
 }
 
 // The rule of a run-end node with run ends of w bytes.
@@ -73,12 +73,12 @@ fn run_end_ok(lengths: &[u64], places: &[u64], body: &[u8], k: usize, w: u8) -> 
     ensures { result ≡ run_end_rule (tables (was lengths) (was places) (was body)) k w }
 {
     if w == 2 {
-        return nodes::run_end_rule_i16(lengths, places, body, k);
+        return nodes::run_end_rule::<u16>(lengths, places, body, k);
     }
     if w == 4 {
-        return nodes::run_end_rule_i32(lengths, places, body, k);
+        return nodes::run_end_rule::<u32>(lengths, places, body, k);
     }
-    nodes::run_end_rule_i64(lengths, places, body, k)
+    nodes::run_end_rule::<u64>(lengths, places, body, k)
 }
 
 // The lengths of the first m children of node i, in field order.
@@ -95,11 +95,9 @@ fn field_lengths(
 {
     let mut lens = [0u64; 16];
     let mut node = i + 1;
-    let mut j = 0;
-    while j < m {
+    for j in 0..m {
         lens[j] = lent_tables::length_of(lengths, first + node);
         node = schema::end_of(schema, first, n, node);
-        j += 1;
     }
     lens
 }
@@ -199,12 +197,10 @@ pub fn source_ok(
     requires { Ready formats.now schema.now (tables_of lengths.now places.now buffers.now body.now) first n }
     ensures { result ≡ source_rule (tree_of (was formats) (was schema) first n) (tables_from (tables_of (was lengths) (was places) (was buffers) (was body)) first) }
 {
-    let mut i = 0;
-    while i < n {
+    for i in 0..n {
         if !node_ok(formats, schema, lengths, places, buffers, body, first, n, i) {
             return false;
         }
-        i += 1;
     }
     true
 }

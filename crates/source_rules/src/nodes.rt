@@ -9,6 +9,7 @@ ghost use Rattle.array_data.specs.lent_tables.Lent.{tables, Counted, mask_of};
 ghost use Rattle.source_rules.specs.nodes.Rows.{string_rows, views_rows, start_in, valid_rows, runs_valid, ends_reach};
 
 use array_data::lent_tables;
+use number::Unsigned;
 
 // The rule of a node of numbers of w bytes.
 pub fn fixed_rule(lengths: &[u64], places: &[u64], body: &[u8], k: usize, w: u8) -> bool
@@ -28,29 +29,29 @@ pub fn fixed_rule(lengths: &[u64], places: &[u64], body: &[u8], k: usize, w: u8)
     )
 }
 
-// The rows of a byte string or list whose offsets of 4 bytes are the range of `size` bytes from `start` on, over `most` bytes of data or rows.
-fn strings_i32(body: &[u8], start: u64, size: u64, off: u64, len: u64, most: u64) -> bool
+// The rows of a byte string or list whose offsets are the range of `size` bytes from `start` on, over `most` bytes of data or rows.
+fn strings<N: Unsigned>(body: &[u8], start: u64, size: u64, off: u64, len: u64, most: u64) -> bool
     requires { (start + size ≤ length body.now) × (off + len < 2 ^ 63) }
-    ensures { result ≡ string_rows 4 (was body) start size off len most }
+    ensures { result ≡ string_rows N.SIZE (was body) start size off len most }
 {
     if size == 0 {
         return len == 0;
     }
-    if !lent_tables::rows_fit(off + len + 1, 4, size) {
+    if !lent_tables::rows_fit(off + len + 1, N::SIZE as u8, size) {
         return false;
     }
-    let at = (start as usize) + 4 * (off as usize);
+    let at = (start as usize) + N::SIZE * (off as usize);
     let n = len as usize;
-    if !row_rules::offsets_i32(body, at, n) {
+    if !row_rules::offsets::<N>(body, at, n) {
         return false;
     }
-    (number::read_u32(body, at + 4 * n) as u64) <= most
+    N::read(body, at + N::SIZE * n).to_u64() <= most
 }
 
-// The rule of a node of byte strings with offsets of 4 bytes.
-pub fn string_rule_i32(lengths: &[u64], places: &[u64], body: &[u8], k: usize) -> bool
+// The rule of a node of byte strings with offsets of N.
+pub fn string_rule<N: Unsigned>(lengths: &[u64], places: &[u64], body: &[u8], k: usize) -> bool
     requires { Counted (tables lengths.now places.now body.now) k }
-    ensures { result ≡ string_rule (tables (was lengths) (was places) (was body)) k 4 }
+    ensures { result ≡ string_rule (tables (was lengths) (was places) (was body)) k N.SIZE }
 {
     if !lent_tables::two_in(lengths, places, body, k) {
         return false;
@@ -63,49 +64,11 @@ pub fn string_rule_i32(lengths: &[u64], places: &[u64], body: &[u8], k: usize) -
     let chars = lent_tables::place(places, k, 6);
     let off = lent_tables::offset_of(lengths, k);
     let len = lent_tables::length_of(lengths, k);
-    strings_i32(body, start, size, off, len, chars)
+    strings::<N>(body, start, size, off, len, chars)
 }
 
-// The rows of a byte string or list whose offsets of 8 bytes are the range of `size` bytes from `start` on, over `most` bytes of data or rows.
-fn strings_i64(body: &[u8], start: u64, size: u64, off: u64, len: u64, most: u64) -> bool
-    requires { (start + size ≤ length body.now) × (off + len < 2 ^ 63) }
-    ensures { result ≡ string_rows 8 (was body) start size off len most }
-{
-    if size == 0 {
-        return len == 0;
-    }
-    if !lent_tables::rows_fit(off + len + 1, 8, size) {
-        return false;
-    }
-    let at = (start as usize) + 8 * (off as usize);
-    let n = len as usize;
-    if !row_rules::offsets_i64(body, at, n) {
-        return false;
-    }
-    number::read_u64(body, at + 8 * n) <= most
-}
-
-// The rule of a node of byte strings with offsets of 8 bytes.
-pub fn string_rule_i64(lengths: &[u64], places: &[u64], body: &[u8], k: usize) -> bool
-    requires { Counted (tables lengths.now places.now body.now) k }
-    ensures { result ≡ string_rule (tables (was lengths) (was places) (was body)) k 8 }
-{
-    if !lent_tables::two_in(lengths, places, body, k) {
-        return false;
-    }
-    if !lent_tables::mask_holds(lengths, places, body, k, true) {
-        return false;
-    }
-    let start = lent_tables::place(places, k, 3);
-    let size = lent_tables::place(places, k, 4);
-    let chars = lent_tables::place(places, k, 6);
-    let off = lent_tables::offset_of(lengths, k);
-    let len = lent_tables::length_of(lengths, k);
-    strings_i64(body, start, size, off, len, chars)
-}
-
-// The rows of a list-view whose offsets and sizes of 4 bytes are the ranges from `start` and from `begin` on, over `child` rows.
-fn views_i32(
+// The rows of a list-view whose offsets and sizes are the ranges from `start` and from `begin` on, over `child` rows.
+fn views<N: Unsigned>(
     body: &[u8],
     start: u64,
     size: u64,
@@ -116,23 +79,23 @@ fn views_i32(
     child: u64,
 ) -> bool
     requires { (start + size ≤ length body.now) × (begin + room ≤ length body.now) × (off + len < 2 ^ 63) }
-    ensures { result ≡ views_rows 4 (was body) start size begin room off len child }
+    ensures { result ≡ views_rows N.SIZE (was body) start size begin room off len child }
 {
-    if !lent_tables::rows_fit(off + len, 4, size) {
+    if !lent_tables::rows_fit(off + len, N::SIZE as u8, size) {
         return false;
     }
-    if !lent_tables::rows_fit(off + len, 4, room) {
+    if !lent_tables::rows_fit(off + len, N::SIZE as u8, room) {
         return false;
     }
-    let at = (start as usize) + 4 * (off as usize);
-    let too = (begin as usize) + 4 * (off as usize);
-    row_rules::list_views_i32(body, at, too, len as usize, child)
+    let at = (start as usize) + N::SIZE * (off as usize);
+    let too = (begin as usize) + N::SIZE * (off as usize);
+    row_rules::list_views::<N>(body, at, too, len as usize, child)
 }
 
-// The rule of a list-view node with offsets and sizes of 4 bytes; its child is the next node.
-pub fn list_view_rule_i32(lengths: &[u64], places: &[u64], body: &[u8], k: usize) -> bool
+// The rule of a list-view node with offsets and sizes of N; its child is the next node.
+pub fn list_view_rule<N: Unsigned>(lengths: &[u64], places: &[u64], body: &[u8], k: usize) -> bool
     requires { Counted (tables lengths.now places.now body.now) k × (k + 1 < 2 ^ 33) }
-    ensures { result ≡ list_view_rule (tables (was lengths) (was places) (was body)) k 4 }
+    ensures { result ≡ list_view_rule (tables (was lengths) (was places) (was body)) k N.SIZE }
 {
     if !lent_tables::two_in(lengths, places, body, k) {
         return false;
@@ -147,59 +110,13 @@ pub fn list_view_rule_i32(lengths: &[u64], places: &[u64], body: &[u8], k: usize
     let child = lent_tables::length_of(lengths, k + 1);
     let off = lent_tables::offset_of(lengths, k);
     let len = lent_tables::length_of(lengths, k);
-    views_i32(body, start, size, begin, room, off, len, child)
+    views::<N>(body, start, size, begin, room, off, len, child)
 }
 
-// The rows of a list-view whose offsets and sizes of 8 bytes are the ranges from `start` and from `begin` on, over `child` rows.
-fn views_i64(
-    body: &[u8],
-    start: u64,
-    size: u64,
-    begin: u64,
-    room: u64,
-    off: u64,
-    len: u64,
-    child: u64,
-) -> bool
-    requires { (start + size ≤ length body.now) × (begin + room ≤ length body.now) × (off + len < 2 ^ 63) }
-    ensures { result ≡ views_rows 8 (was body) start size begin room off len child }
-{
-    if !lent_tables::rows_fit(off + len, 8, size) {
-        return false;
-    }
-    if !lent_tables::rows_fit(off + len, 8, room) {
-        return false;
-    }
-    let at = (start as usize) + 8 * (off as usize);
-    let too = (begin as usize) + 8 * (off as usize);
-    row_rules::list_views_i64(body, at, too, len as usize, child)
-}
-
-// The rule of a list-view node with offsets and sizes of 8 bytes; its child is the next node.
-pub fn list_view_rule_i64(lengths: &[u64], places: &[u64], body: &[u8], k: usize) -> bool
+// The rule of a list node with offsets of N; its child is the next node.
+pub fn list_rule<N: Unsigned>(lengths: &[u64], places: &[u64], body: &[u8], k: usize) -> bool
     requires { Counted (tables lengths.now places.now body.now) k × (k + 1 < 2 ^ 33) }
-    ensures { result ≡ list_view_rule (tables (was lengths) (was places) (was body)) k 8 }
-{
-    if !lent_tables::two_in(lengths, places, body, k) {
-        return false;
-    }
-    if !lent_tables::mask_holds(lengths, places, body, k, true) {
-        return false;
-    }
-    let start = lent_tables::place(places, k, 3);
-    let size = lent_tables::place(places, k, 4);
-    let begin = lent_tables::place(places, k, 5);
-    let room = lent_tables::place(places, k, 6);
-    let child = lent_tables::length_of(lengths, k + 1);
-    let off = lent_tables::offset_of(lengths, k);
-    let len = lent_tables::length_of(lengths, k);
-    views_i64(body, start, size, begin, room, off, len, child)
-}
-
-// The rule of a list node with offsets of 4 bytes; its child is the next node.
-pub fn list_rule_i32(lengths: &[u64], places: &[u64], body: &[u8], k: usize) -> bool
-    requires { Counted (tables lengths.now places.now body.now) k × (k + 1 < 2 ^ 33) }
-    ensures { result ≡ list_rule (tables (was lengths) (was places) (was body)) k 4 }
+    ensures { result ≡ list_rule (tables (was lengths) (was places) (was body)) k N.SIZE }
 {
     if !lent_tables::one_in(lengths, places, body, k) {
         return false;
@@ -212,37 +129,14 @@ pub fn list_rule_i32(lengths: &[u64], places: &[u64], body: &[u8], k: usize) -> 
     let child = lent_tables::length_of(lengths, k + 1);
     let off = lent_tables::offset_of(lengths, k);
     let len = lent_tables::length_of(lengths, k);
-    strings_i32(body, start, size, off, len, child)
-}
-
-// The rule of a list node with offsets of 8 bytes; its child is the next node.
-pub fn list_rule_i64(lengths: &[u64], places: &[u64], body: &[u8], k: usize) -> bool
-    requires { Counted (tables lengths.now places.now body.now) k × (k + 1 < 2 ^ 33) }
-    ensures { result ≡ list_rule (tables (was lengths) (was places) (was body)) k 8 }
-{
-    if !lent_tables::one_in(lengths, places, body, k) {
-        return false;
-    }
-    if !lent_tables::mask_holds(lengths, places, body, k, true) {
-        return false;
-    }
-    let start = lent_tables::place(places, k, 3);
-    let size = lent_tables::place(places, k, 4);
-    let child = lent_tables::length_of(lengths, k + 1);
-    let off = lent_tables::offset_of(lengths, k);
-    let len = lent_tables::length_of(lengths, k);
-    strings_i64(body, start, size, off, len, child)
+    strings::<N>(body, start, size, off, len, child)
 }
 
 // Where a range of the body begins, or the body's end where the range begins past it.
 fn part_start(body: &[u8], at: u64) -> usize
     ensures { result ≡ start_in (was body) at }
 {
-    let start = at as usize;
-    if body.len() < start {
-        return body.len();
-    }
-    start
+    body.len().min(at as usize)
 }
 
 // Whether no bit of node k's rows is zero, where its validity has a bit for each slot.
@@ -279,27 +173,27 @@ fn runs_valid(lengths: &[u64], places: &[u64], body: &[u8], k: usize) -> bool
     all_valid(lengths, places, body, k + 1)
 }
 
-// Run ends of 2 bytes in the range of `size` bytes from `start` on: they fit, rise strictly from at least 1, and the last is at least `reach`.
-fn ends_i16(body: &[u8], start: usize, size: u64, off: u64, len: u64, reach: u64) -> bool
+// Run ends in the range of `size` bytes from `start` on: they fit, rise strictly from at least 1, and the last is at least `reach`.
+fn ends<N: Unsigned>(body: &[u8], start: usize, size: u64, off: u64, len: u64, reach: u64) -> bool
     requires { (start + size ≤ length body.now) × (off + len < 2 ^ 63) }
-    ensures { result ≡ ends_reach 2 (was body) start size off len reach }
+    ensures { result ≡ ends_reach N.SIZE (was body) start size off len reach }
 {
-    if !lent_tables::rows_fit(off + len, 2, size) {
+    if !lent_tables::rows_fit(off + len, N::SIZE as u8, size) {
         return false;
     }
-    let at = start + 2 * (off as usize);
+    let at = start + N::SIZE * (off as usize);
     let n = len as usize;
-    if !row_rules::run_ends_i16(body, at, n) {
+    if !row_rules::run_ends::<N>(body, at, n) {
         return false;
     }
-    let last = run_ends::last_run_end::<u16>(body, at, n);
+    let last = run_ends::last_run_end::<N>(body, at, n);
     reach <= last.0
 }
 
-// The rule of a run-end node with run ends of 2 bytes: the run ends are the next node, the values the one after.
-pub fn run_end_rule_i16(lengths: &[u64], places: &[u64], body: &[u8], k: usize) -> bool
+// The rule of a run-end node with run ends of N: the run ends are the next node, the values the one after.
+pub fn run_end_rule<N: Unsigned>(lengths: &[u64], places: &[u64], body: &[u8], k: usize) -> bool
     requires { Counted (tables lengths.now places.now body.now) k × Counted (tables lengths.now places.now body.now) (k + 1) × (k + 2 < 2 ^ 33) }
-    ensures { result ≡ run_end_rule (tables (was lengths) (was places) (was body)) k 2 }
+    ensures { result ≡ run_end_rule (tables (was lengths) (was places) (was body)) k N.SIZE }
 {
     if !runs_valid(lengths, places, body, k) {
         return false;
@@ -311,83 +205,7 @@ pub fn run_end_rule_i16(lengths: &[u64], places: &[u64], body: &[u8], k: usize) 
     let off = lent_tables::offset_of(lengths, e);
     let len = lent_tables::length_of(lengths, e);
     let reach = lent_tables::count_of(lengths, k);
-    if !ends_i16(body, start, size, off, len, reach) {
-        return false;
-    }
-    lent_tables::length_of(lengths, k + 2) == lent_tables::length_of(lengths, e)
-}
-
-// Run ends of 4 bytes in the range of `size` bytes from `start` on: they fit, rise strictly from at least 1, and the last is at least `reach`.
-fn ends_i32(body: &[u8], start: usize, size: u64, off: u64, len: u64, reach: u64) -> bool
-    requires { (start + size ≤ length body.now) × (off + len < 2 ^ 63) }
-    ensures { result ≡ ends_reach 4 (was body) start size off len reach }
-{
-    if !lent_tables::rows_fit(off + len, 4, size) {
-        return false;
-    }
-    let at = start + 4 * (off as usize);
-    let n = len as usize;
-    if !row_rules::run_ends_i32(body, at, n) {
-        return false;
-    }
-    let last = run_ends::last_run_end::<u32>(body, at, n);
-    reach <= last.0
-}
-
-// The rule of a run-end node with run ends of 4 bytes: the run ends are the next node, the values the one after.
-pub fn run_end_rule_i32(lengths: &[u64], places: &[u64], body: &[u8], k: usize) -> bool
-    requires { Counted (tables lengths.now places.now body.now) k × Counted (tables lengths.now places.now body.now) (k + 1) × (k + 2 < 2 ^ 33) }
-    ensures { result ≡ run_end_rule (tables (was lengths) (was places) (was body)) k 4 }
-{
-    if !runs_valid(lengths, places, body, k) {
-        return false;
-    }
-    let e = k + 1;
-    let at = lent_tables::place(places, e, 3);
-    let start = part_start(body, at);
-    let size = lent_tables::part_len(body, at, lent_tables::place(places, e, 4));
-    let off = lent_tables::offset_of(lengths, e);
-    let len = lent_tables::length_of(lengths, e);
-    let reach = lent_tables::count_of(lengths, k);
-    if !ends_i32(body, start, size, off, len, reach) {
-        return false;
-    }
-    lent_tables::length_of(lengths, k + 2) == lent_tables::length_of(lengths, e)
-}
-
-// Run ends of 8 bytes in the range of `size` bytes from `start` on: they fit, rise strictly from at least 1, and the last is at least `reach`.
-fn ends_i64(body: &[u8], start: usize, size: u64, off: u64, len: u64, reach: u64) -> bool
-    requires { (start + size ≤ length body.now) × (off + len < 2 ^ 63) }
-    ensures { result ≡ ends_reach 8 (was body) start size off len reach }
-{
-    if !lent_tables::rows_fit(off + len, 8, size) {
-        return false;
-    }
-    let at = start + 8 * (off as usize);
-    let n = len as usize;
-    if !row_rules::run_ends_i64(body, at, n) {
-        return false;
-    }
-    let last = run_ends::last_run_end::<u64>(body, at, n);
-    reach <= last.0
-}
-
-// The rule of a run-end node with run ends of 8 bytes: the run ends are the next node, the values the one after.
-pub fn run_end_rule_i64(lengths: &[u64], places: &[u64], body: &[u8], k: usize) -> bool
-    requires { Counted (tables lengths.now places.now body.now) k × Counted (tables lengths.now places.now body.now) (k + 1) × (k + 2 < 2 ^ 33) }
-    ensures { result ≡ run_end_rule (tables (was lengths) (was places) (was body)) k 8 }
-{
-    if !runs_valid(lengths, places, body, k) {
-        return false;
-    }
-    let e = k + 1;
-    let at = lent_tables::place(places, e, 3);
-    let start = part_start(body, at);
-    let size = lent_tables::part_len(body, at, lent_tables::place(places, e, 4));
-    let off = lent_tables::offset_of(lengths, e);
-    let len = lent_tables::length_of(lengths, e);
-    let reach = lent_tables::count_of(lengths, k);
-    if !ends_i64(body, start, size, off, len, reach) {
+    if !ends::<N>(body, start, size, off, len, reach) {
         return false;
     }
     lent_tables::length_of(lengths, k + 2) == lent_tables::length_of(lengths, e)

@@ -1,5 +1,5 @@
 -- `source_rules::field_lengths` meets its contract. The invariant: the children before j are written, and `node` is child j. Assumes nothing.
-use Prim.Native.Nat.{ℕ, ◌+◌, ◌-◌}
+use Prim.Native.Nat.{ℕ, ◌+◌}
 use mathlib.Core.Path.{ap, ◌∙◌, refl}
 use mathlib.Core.List.{[]}
 use native.Mathlib.Omega.{arith}
@@ -10,34 +10,10 @@ use Rattle.array_data.specs.lent_tables.Lent.{tables}
 use Rattle.source_rules.proofs.Fields.{child_first, child_next, child_below, set_more}
 use Rattle.source_rules.proofs.field_lengths.Goals as goal
 
-pub overflow_add-node : goal.overflow_add-node
-overflow_add-node c = omega arith
-
 pub loop-j-init : goal.loop-j-init
 loop-j-init c =
     let z = c.args in
-    (refl, omega arith, omega arith, child_first z.schema.now z.first z.n z.i, λ k h. absurd (omega arith))
-
-pub overflow_add-first : goal.overflow_add-first
-overflow_add-first c = omega arith
-
-pub length_of-requires : goal.length_of-requires
-length_of-requires c = omega arith
-
-pub offset_bounds-lens-j : goal.offset_bounds-lens-j
-offset_bounds-lens-j c = omega arith
-
-pub bounds-lens-j : goal.bounds-lens-j
-bounds-lens-j c = omega arith
-
-pub end_of-node-requires : goal.end_of-node-requires
-end_of-node-requires c = omega arith
-
-pub overflow_add-j : goal.overflow_add-j
-overflow_add-j c = omega arith
-
-pub loop-j-smaller : goal.loop-j-smaller
-loop-j-smaller c = omega arith
+    (refl, omega arith, child_first z.schema.now z.first z.n z.i, λ k h. absurd (omega arith))
 
 pub loop-j-preserved : goal.loop-j-preserved
 loop-j-preserved c =
@@ -46,10 +22,9 @@ loop-j-preserved c =
     let f : ℕ → ℕ = λ k. length_of (tables z.lengths.now [] []) (z.first + child_at z.schema.now z.first z.n z.i k) in (
       length-set l.lens l.j _ ∙ l.invariant.0,
       child_below z.schema.now z.first z.n z.i l.node _ l.invariant.1 c.end_of-node.ensures,
-      omega arith,
-      child_next z.schema.now z.first z.n z.i l.j l.node _ l.invariant.3 c.end_of-node.ensures,
-      set_more f l.lens l.j _ (omega arith) l.invariant.4 (c.length_of.ensures ∙ ap (λ k. length_of (tables z.lengths.now [] []) (z.first + k)) l.invariant.3),
+      child_next z.schema.now z.first z.n z.i l.j l.node _ l.invariant.2 c.end_of-node.ensures,
+      set_more f l.lens l.j _ (omega arith) l.invariant.3 (c.length_of.ensures ∙ ap (λ k. length_of (tables z.lengths.now [] []) (z.first + k)) l.invariant.2),
     )
 
 pub returns : goal.returns
-returns c = λ j h. c.loop-j.invariant.4 j (omega arith)
+returns c = λ j h. c.loop-j.invariant.3 j (omega arith)

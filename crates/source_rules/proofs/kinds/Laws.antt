@@ -1,6 +1,6 @@
 -- What the rows of a node go by: data buffers, the bound of keys, children by id, and each kind's tests one after the other. Assumes nothing.
 use mathlib.Core.Path.{◌≡◌, refl, sym, ap, ◌∙◌}
-use mathlib.Core.Bool.{Bool, true, false, not, ◌&&◌}
+use mathlib.Core.Bool.{Bool, true, false, ◌&&◌}
 use mathlib.Core.List.{List, [], ◌∷◌, Memᴰ}
 use mathlib.Core.Option.{some, some-injective, none-ne-some}
 use Prim.Native.Nat.{ℕ, zero, suc, ◌+◌, ◌*◌, ◌/◌, ◌^◌, min, ◌≤◌, ◌<◌}
@@ -20,7 +20,7 @@ use Rattle.array_data.specs.Tables.{Tables, length_of, offset_of, place}
 use Rattle.array_data.specs.Rules.{one_in, two_in, buffers_in, view_rule, dictionary_rule, sparse_rule, dense_rule}
 use Rattle.array_data.specs.Typed.{field_of}
 use Rattle.array_data.specs.lent_tables.Lent.{mask_of}
-use Rattle.array_data.proofs.lent_tables.Laws.{no, yes, and_left}
+use Rattle.array_data.proofs.lent_tables.Laws.{and_left}
 use Rattle.source_rules.specs.kinds.Rows.{Ready, reach, view_rows, key_rows, sparse_rows, dense_rows}
 use Rattle.source_rules.proofs.kinds.Links.{same_field, view_is, keys_are, sparse_is, dense_is}
 
@@ -28,11 +28,11 @@ use Rattle.source_rules.proofs.kinds.Links.{same_field, view_is, keys_are, spars
 
 -- two numbers each, by half the table's length
 module _ {r : Bool} (first count : ℕ) (t : List ℕ) (e : r ≡ leb (first + count) (length t / 2)) where
-  pub pairs_past : not r ≡ true → length t < 2 * (first + count)
-  pairs_past h = omega (arith, leb-false (first + count) (length t / 2) (no e h))
+  pub pairs_past : r ≡ false → length t < 2 * (first + count)
+  pairs_past h = omega (arith, leb-false (first + count) (length t / 2) (sym e ∙ h))
 
-  pub pairs_in : not r ≡ false → 2 * (first + count) ≤ length t
-  pairs_in h = omega (arith, leb-true (first + count) (length t / 2) (yes e h))
+  pub pairs_in : r ≡ true → 2 * (first + count) ≤ length t
+  pairs_in h = omega (arith, leb-true (first + count) (length t / 2) (sym e ∙ h))
 
 -- data buffer i behind the first lies in the body
 abbrev pub lies : List ℕ → List ℕ → ℕ → ℕ → Bool
@@ -54,14 +54,8 @@ module _ (x : Tables) (k : ℕ) {first count : ℕ} (e : first ≡ place x k 7) 
 -- ---- entries that fit
 
 module _ {r : Bool} {count size n p : ℕ} (w : ℕ) (h : r ≡ leb (count * w) size) (c : count ≡ n) (s : size ≡ p) where
-  fit_is : r ≡ leb (n * w) p
-  fit_is = rw (c, s) at h
-
-  pub fit_no : not r ≡ true → leb (n * w) p ≡ false
-  fit_no t = no fit_is t
-
-  pub fit_yes : not r ≡ false → leb (n * w) p ≡ true
-  fit_yes t = yes fit_is t
+  pub fit_is : {b : Bool} → r ≡ b → leb (n * w) p ≡ b
+  fit_is t = sym (rw (c, s) at h) ∙ t
 
 -- the bytes of the slots before an array's rows, and of its rows
 pub entries_in : (w off len : ℕ) → (off + len) * w ≡ w * off + w * len

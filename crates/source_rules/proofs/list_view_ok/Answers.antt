@@ -8,9 +8,9 @@ use Rattle.source_rules.proofs.list_view_ok.Goals as goal
 pub returns-then-w-eq4 : goal.returns-then-w-eq4
 returns-then-w-eq4 c =
     let a = c.args in
-    c.list_view_rule_i32.ensures ∙ ap (list_view_rule (tables a.lengths.now a.places.now a.body.now) a.k) (sym c.if-w-eq4.true)
+    c.list_view_rule.ensures ∙ ap (list_view_rule (tables a.lengths.now a.places.now a.body.now) a.k) (sym c.if-w-eq4.true)
 
 pub returns : goal.returns
 returns c =
     let a = c.args in
-    c.list_view_rule_i64.ensures ∙ ap (list_view_rule (tables a.lengths.now a.places.now a.body.now) a.k) (sym (not_four c.requires.2 c.if-w-eq4.false))
+    c.list_view_rule-2.ensures ∙ ap (list_view_rule (tables a.lengths.now a.places.now a.body.now) a.k) (sym (not_four c.requires.2 c.if-w-eq4.false))

@@ -1,23 +1,31 @@
 -- What the rules of a node go by: rows of buffers that lie in the body. Assumes nothing.
 use mathlib.Core.Path.{◌≡◌, refl, sym, ap, ◌∙◌}
-use mathlib.Core.Bool.{Bool, true, false, cond, not, ◌&&◌, ◌||◌, and-true}
+use mathlib.Core.Bool.{Bool, true, false, cond, ◌&&◌, ◌||◌, and-true}
 use mathlib.Core.List.{List, [], ◌∷◌}
-use Prim.Native.Nat.{ℕ, zero, suc, ◌+◌, ◌*◌, ◌-◌, ◌/◌, ◌≤◌, ◌<◌}
-use native.Mathlib.Nat.{le-div_iff_mul-le, mul-zero, mul-pos, pos_of_ne-zero}
+use Prim.Native.Nat.{ℕ, suc, ◌+◌, ◌*◌, ◌≤◌, ◌<◌}
+use native.Mathlib.Nat.{mul-pos, pos_of_ne-zero, mul_comm, mul-add, mul-one}
 use native.Mathlib.Numerals.{add-one}
 use native.Mathlib.Omega.{arith}
-use lib.ListN.{length, take, drop}
-use lib.Dec.{leb, ltb, eqb}
-use borrow.Author.Tests.{not-true, not-false, le-leb, lt-leb, leb-true, leb-false, eq-eqb, ne_eqb, eqb-true, eqb-false}
-use Rattle.columnar.specs.Types.{Number, width, fixed, string}
+use lib.ListN.{length}
+use lib.Dec.{leb, eqb}
+use borrow.Author.Tests.{lt-leb, eqb-true, eqb-false}
+use Rattle.columnar.specs.Types.{Number, width, string}
 use Rattle.columnar.specs.Array.{Array, ok}
-use Rattle.columnar.specs.Test.{same, plain_test, offsets_rule, list_view_test, list_test, array_test}
-use Rattle.array_data.specs.Tables.{Tables, length_of, offset_of, valid_of, place, held, valid_in, in_body, first_buffer, part}
+use Rattle.columnar.specs.Test.{same, plain_test, offsets_rule, list_view_test}
+use Rattle.array_data.specs.Tables.{Tables, length_of, offset_of, valid_of, place, part}
 use Rattle.array_data.specs.Rules.{child_of, one_in, two_in, fixed_rule, string_rule, list_view_rule, list_rule}
 use Rattle.row_rules.proofs.Links.{length_part, offsets_test_lem, list_view_test_lem}
 use Rattle.array_data.specs.lent_tables.Lent.{mask_of}
 use Rattle.array_data.proofs.lent_tables.Laws.{first_in, two_one, second_in}
 use Rattle.source_rules.specs.nodes.Rows.{string_rows, views_rows}
+
+-- what a test of n entries of k bytes says of entries of w
+pub fit : {w k : ℕ} (n size : ℕ) {r b : Bool} → k ≡ w → r ≡ leb (n * k) size → r ≡ b → leb (n * w) size ≡ b
+fit {w} {k} n size {r} {b} e h q = let t : leb (n * k) size ≡ b = sym h ∙ q in rw e at t
+
+-- the bytes of the slots before an array's rows, of its rows, and of one more
+pub slots_in : (w off len : ℕ) → (off + len + 1) * w ≡ w * off + w * len + w
+slots_in w off len = rw (mul_comm (off + len + 1) w, mul-add, mul-add, mul-one)
 
 -- ---- rows of buffers that lie in the body
 

@@ -16,22 +16,12 @@ returns-in_default c =
     let s = typed_shape z.formats.now z.schema.now z.first z.n h.0.is_typed z.i h.1 in
     λ u. absurd (no_bad z.formats.now z.schema.now z.first z.n (tables_of z.lengths.now z.places.now u z.body.now) z.i c.get-at.result c.get-len.result c.get-at.ensures c.get-len.ensures s h.2 _ c.union_ids.ensures.value c.in_default.is)
 
-pub field_lengths-lens-requires : goal.field_lengths-lens-requires
-field_lengths-lens-requires c =
-    let z = c.args in
-    let h = c.requires in
-    let o = ids_at z.formats.now c.get-at.result c.get-len.result in
-    (h.0.low, h.0.few, h.1, count_fine o _ _ c.union_ids.ensures.value c.in-Some.is (fine z.formats.now c.get-at.result c.get-len.result))
-
 pub slice_bounds-sparse_rule-end : goal.slice_bounds-sparse_rule-end
 slice_bounds-sparse_rule-end c =
     let z = c.args in
     let o = ids_at z.formats.now c.get-at.result c.get-len.result in
     let f = fine z.formats.now c.get-at.result c.get-len.result in
     omega (arith, count_fine o _ _ c.union_ids.ensures.value c.in-Some.is f, ap length c.union_ids.ensures.ids_after ∙ written_length o (replicate 16 0) f refl)
-
-pub sparse_rule-requires : goal.sparse_rule-requires
-sparse_rule-requires c = c.requires.0.counted c.args.i c.requires.1
 
 pub returns-then-sparse : goal.returns-then-sparse
 returns-then-sparse c =
@@ -48,9 +38,6 @@ slice_bounds-dense_rule-end c =
     let o = ids_at z.formats.now c.get-at.result c.get-len.result in
     let f = fine z.formats.now c.get-at.result c.get-len.result in
     omega (arith, count_fine o _ _ c.union_ids.ensures.value c.in-Some.is f, ap length c.union_ids.ensures.ids_after ∙ written_length o (replicate 16 0) f refl)
-
-pub dense_rule-requires : goal.dense_rule-requires
-dense_rule-requires c = c.requires.0.counted c.args.i c.requires.1
 
 pub returns : goal.returns
 returns c =

@@ -1,13 +1,10 @@
 use mathlib.Core.Path.{◌≡◌}
 use mathlib.Core.Bool.{true}
-use Prim.Native.Nat.{◌+◌, ◌-◌, ◌*◌, ◌≤◌}
+use Prim.Native.Nat.{◌+◌, ◌*◌, ◌≤◌}
 use lib.ListN.{length}
 use Rattle.columnar.specs.Test.{every}
 use Rattle.source_rules.proofs.kinds.Laws.{lies}
 use Rattle.source_rules.proofs.kinds.buffers_in.Given as goal
 
 abbrev pub invariant-loop-i : goal.invariant-loop-i
-invariant-loop-i l = (l.i ≤ l.count) × (true ≡ every (lies l.buffers l.body l.first) l.i) × (2 * (l.first + l.count) ≤ length l.buffers)
-
-abbrev pub decreases-loop-i : goal.decreases-loop-i
-decreases-loop-i l = l.count - l.i
+invariant-loop-i l = (true ≡ every (lies l.buffers l.body l.first) l.i) × (2 * (l.first + l.count) ≤ length l.buffers)

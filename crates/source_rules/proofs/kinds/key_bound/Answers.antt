@@ -1,4 +1,4 @@
--- `kind_rules::key_bound` meets its contract. Assumes nothing.
+-- `kinds::key_bound` meets its contract. Assumes nothing.
 use mathlib.Core.Path.{◌≡◌, ◌∙◌}
 use Prim.Native.Nat.{min}
 use native.Mathlib.Omega.{arith}
@@ -14,16 +14,9 @@ returns-then-c-gt10 c =
     let t : 0 ≡ min (get_or limits a.code 0) a.values = omega arith in
     t ∙ bound_is a.code m a.values (omega arith) e
 
-pub returns-then-top-values : goal.returns-then-top-values
-returns-then-top-values c =
+pub returns : goal.returns
+returns c =
     let a = c.args in
     λ m e.
-    let t : get_or limits a.code 0 ≡ min (get_or limits a.code 0) a.values = omega arith in
-    t ∙ bound_is a.code m a.values (omega arith) e
-
-pub returns-else-top-values : goal.returns-else-top-values
-returns-else-top-values c =
-    let a = c.args in
-    λ m e.
-    let t : a.values ≡ min (get_or limits a.code 0) a.values = omega arith in
+    let t : c.min.result ≡ min (get_or limits a.code 0) a.values = omega arith in
     t ∙ bound_is a.code m a.values (omega arith) e

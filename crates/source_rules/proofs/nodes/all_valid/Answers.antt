@@ -1,9 +1,8 @@
 -- `node_rules::all_valid` meets its contract: no validity, no row, or no zero among the bits. Assumes nothing.
 use mathlib.Core.Path.{sym, ◌∙◌}
-use native.Mathlib.Omega.{arith}
 use Rattle.array_data.specs.lent_tables.Lent.{tables}
 use Rattle.array_data.proofs.lent_tables.Laws.{is_none, is_some}
-use Rattle.source_rules.proofs.nodes.Ends.{all_none, all_empty, all_some, slots_inside}
+use Rattle.source_rules.proofs.nodes.RunEnds.{all_none, all_empty, all_some}
 use Rattle.source_rules.proofs.nodes.all_valid.Goals as goal
 
 pub returns-then-place-eq0 : goal.returns-then-place-eq0
@@ -15,12 +14,6 @@ pub returns-then-n-eq0 : goal.returns-then-n-eq0
 returns-then-n-eq0 c =
     let a = c.args in
     all_empty (tables a.lengths.now a.places.now a.body.now) a.k (sym c.length_of-n.ensures ∙ c.if-n-eq0.true)
-
-pub count_zeros-requires : goal.count_zeros-requires
-count_zeros-requires c =
-    let a = c.args in
-    let x = tables a.lengths.now a.places.now a.body.now in
-    omega (arith, slots_inside x a.k (is_some c.place.ensures c.if-place-eq0.false) c.requires.1 (omega arith))
 
 pub returns : goal.returns
 returns c =

@@ -1,26 +1,25 @@
 -- What the rule of a run-end node goes by: parts that may leave the body, validity without a zero, and the order of the tests. Assumes nothing.
-use mathlib.Core.Path.{◌≡◌, refl, sym, ap, ap₂, ◌∙◌}
-use mathlib.Core.Bool.{Bool, true, false, cond, ◌&&◌, and-true, and-false}
-use mathlib.Core.List.{List, [], ◌∷◌, ◌++◌}
+use mathlib.Core.Path.{◌≡◌, refl, sym, ap, ◌∙◌}
+use mathlib.Core.Bool.{Bool, true, false, ◌&&◌, and-true, and-false}
+use mathlib.Core.List.{List, [], ◌∷◌}
 use Prim.Native.Nat.{ℕ, zero, suc, ◌+◌, ◌*◌, ◌-◌, min, ◌≤◌, ◌<◌}
 use native.Mathlib.Nat.{add_assoc, zero-min, min-zero, suc-min-suc, add-zero}
 use native.Mathlib.Numerals.{add-one}
 use native.Mathlib.Omega.{arith}
-use lib.ListN.{length, take, drop, get_or, length-take, length-drop, drop_of_length-le}
-use lib.Seq.{drop-cons, take-nil, drop-length, get_or-take, get_or-drop, take_all}
+use lib.ListN.{length, take, drop, get_or, length-take, length-drop}
+use lib.Seq.{drop-cons, get_or-take, get_or-drop}
 use lib.Dec.{leb, eqb}
 use borrow.Author.Tests.{leb-true, eq-eqb, ne_eqb, eqb-true, eqb-false}
-use Rattle.columnar.specs.Array.{Array, bit, ok}
-use Rattle.columnar.specs.Test.{every, mask_test, ends_test}
+use Rattle.columnar.specs.Array.{bit, ok}
+use Rattle.columnar.specs.Test.{every}
 use Rattle.columnar.specs.RunEnd.{end_of, start_of}
-use Rattle.run_ends.specs.Lookup.{last_end}
 use Rattle.bits.specs.Bits.{bits, bits_at, zeros}
 use Rattle.bits.proofs.Laws.{bit_at, take_bits, drop_bits, length_bits, below_at_lem, below_bits}
 use Rattle.bits.proofs.Puts.{zeros_add}
 use Rattle.bits.proofs.Steps.{zeros_none}
 use Rattle.row_rules.specs.Rules.{ends_rows}
 use Rattle.row_rules.proofs.Links.{ends_test_lem, ends_last}
-use Rattle.array_data.specs.Tables.{Tables, length_of, offset_of, valid_of, place, held, in_body, first_buffer, part, array_with}
+use Rattle.array_data.specs.Tables.{Tables, length_of, offset_of, place, held, in_body, first_buffer, part, array_with}
 use Rattle.array_data.specs.Rules.{run_end_rule}
 use Rattle.array_data.specs.lent_tables.Lent.{mask_of}
 use Rattle.source_rules.specs.nodes.Rows.{start_in, valid_rows, runs_valid, ends_reach}

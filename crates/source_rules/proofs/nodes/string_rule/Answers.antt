@@ -1,0 +1,19 @@
+-- `nodes::string_rule` meets its contract. Assumes nothing.
+use mathlib.Core.Path.{sym, ◌∙◌}
+use Rattle.array_data.specs.lent_tables.Lent.{tables}
+use Rattle.source_rules.proofs.nodes.Laws.{string_last}
+use Rattle.source_rules.proofs.nodes.string_rule.Goals as goal
+
+pub returns-then-not-two_in : goal.returns-then-not-two_in
+returns-then-not-two_in g c = rw (sym c.two_in.ensures ∙ c.if-not-two_in.true)
+
+pub returns-then-not-mask_holds : goal.returns-then-not-mask_holds
+returns-then-not-mask_holds g c = rw (sym c.two_in.ensures ∙ c.if-not-two_in.false, sym c.mask_holds.ensures ∙ c.if-not-mask_holds.true)
+
+pub returns : goal.returns
+returns g c =
+    let a = c.args in
+    let x = tables a.lengths.now a.places.now a.body.now in
+    string_last x a.k g.N.Unsigned.SIZE g.met.N.Unsigned.sized.some
+    (sym c.two_in.ensures ∙ c.if-not-two_in.false) (sym c.mask_holds.ensures ∙ c.if-not-mask_holds.false) c.strings.ensures
+    c.place-start.ensures c.place-size.ensures c.place-chars.ensures c.offset_of-off.ensures c.length_of-len.ensures
