@@ -1,31 +1,10 @@
 -- `puts::write_unsigned_keys` meets its contract. Assumes nothing.
-use native.Mathlib.Omega.{arith}
 use mathlib.Core.Path.{ap, ◌∙◌}
 use mathlib.Core.List.{List}
-use Prim.Native.Nat.{ℕ, ◌*◌}
+use Prim.Native.Nat.{ℕ}
 use Rattle.number.specs.Number.{splice}
 use Rattle.room_writes.proofs.Bytes.{rebased_cut}
 use Rattle.room_writes.proofs.keys.write_unsigned_keys.Goals as goal
-
-pub extend_with_offset_u8-requires : goal.extend_with_offset_u8-requires
-extend_with_offset_u8-requires c =
-    let a = c.args in
-    record { n_in_bounds = omega (arith, c.in-1.is, ap (λ (z : ℕ). z * a.n) c.in-1.is); n_in_bounds_2 = omega (arith, c.in-1.is, ap (λ (z : ℕ). z * a.n) c.in-1.is) }
-
-pub extend_with_offset_u16-requires : goal.extend_with_offset_u16-requires
-extend_with_offset_u16-requires c =
-    let a = c.args in
-    record { n_in_bounds = omega (arith, c.in-2.is, ap (λ (z : ℕ). z * a.n) c.in-2.is); n_in_bounds_2 = omega (arith, c.in-2.is, ap (λ (z : ℕ). z * a.n) c.in-2.is) }
-
-pub extend_with_offset_u32-requires : goal.extend_with_offset_u32-requires
-extend_with_offset_u32-requires c =
-    let a = c.args in
-    record { n_in_bounds = omega (arith, c.in-4.is, ap (λ (z : ℕ). z * a.n) c.in-4.is); n_in_bounds_2 = omega (arith, c.in-4.is, ap (λ (z : ℕ). z * a.n) c.in-4.is) }
-
-pub extend_with_offset_u64-requires : goal.extend_with_offset_u64-requires
-extend_with_offset_u64-requires c =
-    let a = c.args in
-    record { n_in_bounds = omega (arith, (c.requires.w_value c.in_default.in_default-own.rest.0.0.1 c.in_default.in_default-own.rest.0.1 c.in_default.in_default-own.rest.1), ap (λ (z : ℕ). z * a.n) (c.requires.w_value c.in_default.in_default-own.rest.0.0.1 c.in_default.in_default-own.rest.0.1 c.in_default.in_default-own.rest.1)); n_in_bounds_2 = omega (arith, (c.requires.w_value c.in_default.in_default-own.rest.0.0.1 c.in_default.in_default-own.rest.0.1 c.in_default.in_default-own.rest.1), ap (λ (z : ℕ). z * a.n) (c.requires.w_value c.in_default.in_default-own.rest.0.0.1 c.in_default.in_default-own.rest.0.1 c.in_default.in_default-own.rest.1)) }
 
 pub returns-in-1 : goal.returns-in-1
 returns-in-1 c =

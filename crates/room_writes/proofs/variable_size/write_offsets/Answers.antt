@@ -1,21 +1,10 @@
 -- `puts::write_offsets` meets its contract. Assumes nothing.
-use native.Mathlib.Omega.{arith}
 use mathlib.Core.Path.{ap, ◌∙◌}
 use mathlib.Core.List.{List}
-use Prim.Native.Nat.{ℕ, ◌*◌}
+use Prim.Native.Nat.{ℕ}
 use Rattle.number.specs.Number.{splice}
 use Rattle.room_writes.proofs.Bytes.{moved_cut}
 use Rattle.room_writes.proofs.variable_size.write_offsets.Goals as goal
-
-pub extend_offsets_i32-requires : goal.extend_offsets_i32-requires
-extend_offsets_i32-requires c =
-    let a = c.args in
-    record { n_in_bounds = omega (arith, c.in-4.is, ap (λ (z : ℕ). z * a.n) c.in-4.is); n_in_bounds_2 = omega (arith, c.in-4.is, ap (λ (z : ℕ). z * a.n) c.in-4.is) }
-
-pub extend_offsets_i64-requires : goal.extend_offsets_i64-requires
-extend_offsets_i64-requires c =
-    let a = c.args in
-    record { n_in_bounds = omega (arith, (c.requires.w_value c.in_default.in_default-own.rest.1), ap (λ (z : ℕ). z * a.n) (c.requires.w_value c.in_default.in_default-own.rest.1)); n_in_bounds_2 = omega (arith, (c.requires.w_value c.in_default.in_default-own.rest.1), ap (λ (z : ℕ). z * a.n) (c.requires.w_value c.in_default.in_default-own.rest.1)) }
 
 pub returns-in-4 : goal.returns-in-4
 returns-in-4 c =
