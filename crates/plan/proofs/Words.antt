@@ -9,7 +9,6 @@ use lib.Seq.{get_or-set_same, get_or-set_other}
 use lib.Dec.{ltb, eqb}
 use borrow.Author.Tests.{eqb-true, eqb-false}
 use Rattle.columnar.specs.Row.{seg}
-use Rattle.model.specs.Opening.{keeps}
 use Rattle.array_data.specs.Tables.{Tables}
 use Rattle.array_data.specs.node_words.Words.{word_of, planted}
 use Rattle.plan.specs.parts.Parts.{part_word, part_total, Numbered}

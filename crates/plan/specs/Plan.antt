@@ -1,6 +1,6 @@
 -- The plan of a join (walk/specs/State.antt) as the opening plans it, before any dictionary is joined: one kind of word after the other.
 -- Assumes nothing.
-use Rattle.std.specs.Prelude.{Bool, false, not, cond, List, ℕ, zero, suc, ◌+◌, ◌*◌, ◌/◌, ◌%◌, ◌≤◌, ◌<◌, min, length, get_or, set, replicate, ltb, eqb}
+use Rattle.std.specs.Prelude.{Bool, false, not, cond, List, ℕ, zero, suc, ◌+◌, ◌*◌, ◌/◌, ◌%◌, ◌≤◌, ◌<◌, min, get_or, set, replicate, ltb, eqb}
 use Rattle.schema.specs.formats.Code.{is_string, is_view, is_run_end}
 use Rattle.columnar.specs.Row.{sum}
 use Rattle.columnar.specs.Dictionary.{Dictionary}

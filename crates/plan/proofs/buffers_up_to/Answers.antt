@@ -1,5 +1,4 @@
 -- `plan::buffers_up_to` meets its contract. The invariant: the sum over the first t sources. Assumes nothing.
-use Prim.Native.Nat.{◌-◌}
 use native.Mathlib.Omega.{arith}
 use Rattle.plan.proofs.Laws.{up_to_none, up_to_more, up_to_all}
 use Rattle.plan.proofs.buffers_up_to.Goals as goal
@@ -8,15 +7,6 @@ pub loop-t-init : goal.loop-t-init
 loop-t-init c =
     let z = c.args in
     (omega arith, up_to_none z.places.now z.sources.now z.i)
-
-pub node_of-k-requires : goal.node_of-k-requires
-node_of-k-requires c = omega arith
-
-pub buffers_of-sum-requires : goal.buffers_of-sum-requires
-buffers_of-sum-requires c = omega arith
-
-pub overflow_add-sum : goal.overflow_add-sum
-overflow_add-sum c = omega arith
 
 pub loop-t-preserved : goal.loop-t-preserved
 loop-t-preserved c =

@@ -1,5 +1,5 @@
 use mathlib.Core.Path.{◌≡◌}
-use Prim.Native.Nat.{◌*◌, ◌-◌, ◌≤◌}
+use Prim.Native.Nat.{◌*◌, ◌≤◌}
 use Rattle.plan.specs.Plan.{buffers_up_to}
 use Rattle.plan.proofs.buffers_up_to.Given as goal
 

@@ -1,5 +1,5 @@
 -- The grounds of parts taken together: the worst of them is the ground of all. Assumes nothing.
-use mathlib.Core.Path.{◌≡◌, refl, sym, ap, ◌∙◌}
+use mathlib.Core.Path.{◌≡◌, refl, ap, ◌∙◌}
 use mathlib.Core.Bool.{Bool, true, false, not, cond, ◌&&◌}
 use mathlib.Core.List.{List}
 use Prim.Native.Nat.{ℕ, zero, suc, ◌+◌, ◌*◌, ◌≤◌, ◌<◌}
@@ -7,9 +7,8 @@ use native.Mathlib.Omega.{arith}
 use native.Mathlib.Numerals.{add-one}
 use lib.ListN.{length}
 use lib.Dec.{leb, ltb, eqb}
-use borrow.Author.Tests.{le-ltb, lt-ltb}
+use borrow.Author.Tests.{le-ltb}
 use Rattle.columnar.specs.Test.{every}
-use Rattle.array_data.proofs.lent_tables.Laws.{is_none}
 use Rattle.walk.specs.State.{code_of, keeps_of}
 use Rattle.plan.specs.parts.Parts.{nodes_of, buffer_count, copied, validity_parts, buffer_parts, has_part, number_of, needed, size_of, in_room, part_within, part_holds, parts_within, parts_hold}
 use Rattle.plan.specs.grounds.Verdict.{verdict, worse_of}

@@ -1,8 +1,7 @@
 -- `plan::joined_word` meets its contract. Assumes nothing.
-use mathlib.Core.Path.{sym, ap, ◌∙◌}
+use mathlib.Core.Path.{◌∙◌}
 use mathlib.Core.Bool.{not}
 use Rattle.array_data.specs.lent_tables.Lent.{tables}
-use Rattle.plan.specs.Plan.{flag}
 use Rattle.plan.proofs.Laws.{byte_flag, joined_none, joined_by, shared_at}
 use Rattle.plan.proofs.joined_word.Goals as goal
 

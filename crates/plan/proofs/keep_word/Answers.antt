@@ -1,8 +1,6 @@
 -- `plan::keep_word` meets its contract. Assumes nothing.
-use mathlib.Core.Path.{sym, ap, ◌∙◌}
-use native.Mathlib.Omega.{arith}
+use mathlib.Core.Path.{◌∙◌}
 use Rattle.array_data.specs.lent_tables.Lent.{tables}
-use Rattle.plan.specs.Plan.{flag}
 use Rattle.plan.proofs.Laws.{byte_flag, keep_ends, keep_by}
 use Rattle.plan.proofs.keep_word.Goals as goal
 
@@ -10,9 +8,6 @@ pub returns-then-is_ends : goal.returns-then-is_ends
 returns-then-is_ends c =
     let z = c.args in
     keep_ends (tables z.lengths.now z.places.now z.body.now) z.sources.now z.m z.keep z.plan.now z.i c.is_ends.ensures c.if-is_ends.true
-
-pub keeps-requires : goal.keeps-requires
-keeps-requires c = (omega arith, omega arith, λ s h. c.requires.2 s (omega arith))
 
 pub returns : goal.returns
 returns c =

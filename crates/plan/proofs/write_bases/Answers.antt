@@ -1,5 +1,5 @@
 -- `plan::write_bases` meets its contract. The invariant: the first q words are written. Assumes nothing.
-use Prim.Native.Nat.{◌+◌, ◌*◌, ◌-◌, ◌/◌, ◌%◌}
+use Prim.Native.Nat.{◌+◌, ◌*◌, ◌/◌, ◌%◌}
 use native.Mathlib.Omega.{arith}
 use Rattle.array_data.specs.lent_tables.Lent.{tables}
 use Rattle.plan.specs.Plan.{base_word, with_bases}
@@ -10,21 +10,6 @@ pub loop-q-init : goal.loop-q-init
 loop-q-init c =
     let z = c.args in
     filled_none (λ k. 352 + k) (λ words k. base_word (tables z.lengths.now z.places.now z.body.now) z.sources.now z.m words (k / 32) (k % 32)) z.plan.now
-
-pub overflow_mul-q-end : goal.overflow_mul-q-end
-overflow_mul-q-end c = omega arith
-
-pub base_word-requires : goal.base_word-requires
-base_word-requires c = omega arith
-
-pub overflow_add-plan : goal.overflow_add-plan
-overflow_add-plan c = omega arith
-
-pub offset_bounds-plan-q : goal.offset_bounds-plan-q
-offset_bounds-plan-q c = omega arith
-
-pub bounds-plan-q : goal.bounds-plan-q
-bounds-plan-q c = omega arith
 
 pub loop-q-preserved : goal.loop-q-preserved
 loop-q-preserved c =

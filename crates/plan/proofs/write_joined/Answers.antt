@@ -1,5 +1,5 @@
 -- `plan::write_joined` meets its contract. The invariant: the first i nodes have their word. Assumes nothing.
-use Prim.Native.Nat.{◌+◌, ◌*◌, ◌-◌}
+use Prim.Native.Nat.{◌+◌, ◌*◌}
 use native.Mathlib.Omega.{arith}
 use Rattle.array_data.specs.lent_tables.Lent.{tables}
 use Rattle.plan.specs.Plan.{joined_word, with_joined}
@@ -10,21 +10,6 @@ pub loop-i-init : goal.loop-i-init
 loop-i-init c =
     let z = c.args in
     filled_none (λ k. 8 * k + 7) (joined_word (tables z.lengths.now z.places.now z.body.now) z.sources.now z.m) z.plan.now
-
-pub joined_word-requires : goal.joined_word-requires
-joined_word-requires c = omega arith
-
-pub overflow_mul-plan : goal.overflow_mul-plan
-overflow_mul-plan c = omega arith
-
-pub overflow_add-plan : goal.overflow_add-plan
-overflow_add-plan c = omega arith
-
-pub offset_bounds-plan-i : goal.offset_bounds-plan-i
-offset_bounds-plan-i c = omega arith
-
-pub bounds-plan-i : goal.bounds-plan-i
-bounds-plan-i c = omega arith
 
 pub loop-i-preserved : goal.loop-i-preserved
 loop-i-preserved c =

@@ -1,5 +1,5 @@
 -- `plan::write_keeps` meets its contract. The invariant: the first i nodes have their word. Assumes nothing.
-use Prim.Native.Nat.{◌+◌, ◌*◌, ◌-◌}
+use Prim.Native.Nat.{◌+◌, ◌*◌}
 use native.Mathlib.Omega.{arith}
 use Rattle.array_data.specs.lent_tables.Lent.{tables}
 use Rattle.plan.specs.Plan.{keep_word, with_keeps}
@@ -10,21 +10,6 @@ pub loop-i-init : goal.loop-i-init
 loop-i-init c =
     let z = c.args in
     filled_none (λ k. 8 * k + 5) (keep_word (tables z.lengths.now z.places.now z.body.now) z.sources.now z.m z.keep) z.plan.now
-
-pub keep_word-requires : goal.keep_word-requires
-keep_word-requires c = (omega arith, omega arith, λ s h. c.requires.2 s c.loop-i.i h (omega arith))
-
-pub overflow_mul-plan : goal.overflow_mul-plan
-overflow_mul-plan c = omega arith
-
-pub overflow_add-plan : goal.overflow_add-plan
-overflow_add-plan c = omega arith
-
-pub offset_bounds-plan-i : goal.offset_bounds-plan-i
-offset_bounds-plan-i c = omega arith
-
-pub bounds-plan-i : goal.bounds-plan-i
-bounds-plan-i c = omega arith
 
 pub loop-i-preserved : goal.loop-i-preserved
 loop-i-preserved c =

@@ -1,5 +1,5 @@
 -- `plan::write_parts` meets its contract. The invariant: the first i nodes have their word. Assumes nothing.
-use Prim.Native.Nat.{◌+◌, ◌*◌, ◌-◌}
+use Prim.Native.Nat.{◌+◌, ◌*◌}
 use native.Mathlib.Omega.{arith}
 use Rattle.plan.specs.parts.Parts.{part_word}
 use Rattle.plan.specs.Plan.{with_parts}
@@ -8,21 +8,6 @@ use Rattle.plan.proofs.write_parts.Goals as goal
 
 pub loop-i-init : goal.loop-i-init
 loop-i-init c = filled_none (λ k. 8 * k + 6) part_word c.args.plan.now
-
-pub part_word-requires : goal.part_word-requires
-part_word-requires c = omega arith
-
-pub overflow_mul-plan : goal.overflow_mul-plan
-overflow_mul-plan c = omega arith
-
-pub overflow_add-plan : goal.overflow_add-plan
-overflow_add-plan c = omega arith
-
-pub offset_bounds-plan-i : goal.offset_bounds-plan-i
-offset_bounds-plan-i c = omega arith
-
-pub bounds-plan-i : goal.bounds-plan-i
-bounds-plan-i c = omega arith
 
 pub loop-i-preserved : goal.loop-i-preserved
 loop-i-preserved c =

@@ -1,5 +1,5 @@
 use mathlib.Core.Path.{◌≡◌}
-use Prim.Native.Nat.{◌+◌, ◌*◌, ◌-◌, ◌≤◌}
+use Prim.Native.Nat.{◌+◌, ◌*◌}
 use Rattle.plan.specs.parts.Parts.{part_word}
 use Rattle.plan.specs.Plan.{filled}
 use Rattle.plan.proofs.write_parts.Given as goal

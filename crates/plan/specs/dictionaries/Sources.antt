@@ -1,6 +1,6 @@
 -- Node i of each source, and the dictionary whose values stand there (docs/FORMAT.md): all that the tests of an opening look at. Assumes nothing.
-use Rattle.std.specs.Prelude.{◌≡◌, Bool, true, false, cond, ◌&&◌, List, [], ◌∷◌, ℕ, ◌+◌, ◌*◌, ◌-◌, ◌^◌, min, ◌<◌, get_or, ltb}
-use Rattle.columnar.specs.Types.{Number, limit, Plain, fixed, string}
+use Rattle.std.specs.Prelude.{◌≡◌, Bool, true, false, cond, List, [], ◌∷◌, ℕ, ◌-◌, ◌^◌, min, ◌<◌}
+use Rattle.columnar.specs.Types.{Plain, fixed, string}
 use Rattle.columnar.specs.Array.{Array}
 use Rattle.columnar.specs.Dictionary.{Dictionary}
 use Rattle.array_data.specs.Tables.{Tables, place, array_with}

@@ -27,9 +27,6 @@ put_copy-requires c =
     let a = c.args in
     (c.requires.first_bound.1, omega arith, bytes_in_lem (length a.body.now) c.place-at.result a.lead (a.last - c.bytes_of-old.result) c.bytes_in.ensures c.if-not-bytes_in.false-raw)
 
-pub set_bytes-requires : goal.set_bytes-requires
-set_bytes-requires c = c.requires.first_bound.1
-
 pub returns : goal.returns
 returns c =
     let a = c.args in

@@ -7,9 +7,6 @@ use Rattle.walk.specs.Copy.{child_with}
 use Rattle.nested_rows.proofs.lookups.Laws.{child_none, child_here, child_next}
 use Rattle.nested_rows.proofs.lookups.child_with.Goals as goal
 
-pub loop-t-init : goal.loop-t-init
-loop-t-init c = refl
-
 pub returns-then-end-k : goal.returns-then-end-k
 returns-then-end-k c =
     let a = c.args in

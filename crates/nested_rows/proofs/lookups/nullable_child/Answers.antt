@@ -7,9 +7,6 @@ use Rattle.walk.specs.Nulls.{nullable_child}
 use Rattle.nested_rows.proofs.lookups.Laws.{nullable_none, nullable_here, nullable_next}
 use Rattle.nested_rows.proofs.lookups.nullable_child.Goals as goal
 
-pub loop-t-init : goal.loop-t-init
-loop-t-init c = refl
-
 pub returns-then-end-k : goal.returns-then-end-k
 returns-then-end-k c =
     let a = c.args in

@@ -1,6 +1,6 @@
 -- `sharing::all_share` meets its contract. The invariant: the sources up to s share. Assumes nothing.
 use Prim.Native.Nat.{ℕ, suc, ◌+◌, ◌-◌}
-use mathlib.Core.Path.{◌≡◌, refl, sym, subst}
+use mathlib.Core.Path.{◌≡◌, sym, subst}
 use mathlib.Core.Bool.{true}
 use Rattle.model.specs.Opening.{shared}
 use native.Mathlib.Omega.{arith}
@@ -9,9 +9,6 @@ use Rattle.array_data.proofs.lent_tables.Laws.{no, yes}
 use Rattle.plan.specs.dictionaries.Sources.{dict_at}
 use Rattle.plan.proofs.dictionaries.Laws.{pair_at, share_more, share_not, share_all}
 use Rattle.plan.proofs.dictionaries.all_share.Goals as goal
-
-pub loop-s-init : goal.loop-s-init
-loop-s-init c = refl
 
 pub returns-then-not-ptr_eq : goal.returns-then-not-ptr_eq
 returns-then-not-ptr_eq c =

@@ -1,24 +1,11 @@
 -- `sharing::any_null` meets its contract. The invariant: no source below s has a null. Assumes nothing.
-use Prim.Native.Nat.{◌-◌}
-use mathlib.Core.Path.{◌≡◌, refl, sym}
-use mathlib.Core.Bool.{false}
+use mathlib.Core.Path.{◌≡◌, sym}
 use native.Mathlib.Numerals.{add-one}
 use native.Mathlib.Omega.{arith}
 use Rattle.array_data.specs.lent_tables.Lent.{tables}
 use Rattle.plan.specs.dictionaries.Sources.{array_at}
 use Rattle.plan.proofs.dictionaries.Laws.{count_at_lem, nulls_no, nulls_yes}
 use Rattle.plan.proofs.dictionaries.any_null.Goals as goal
-
-pub loop-s-init : goal.loop-s-init
-loop-s-init c = refl
-
-pub node_of-k-requires : goal.node_of-k-requires
-node_of-k-requires c = omega arith
-
-pub null_count-requires : goal.null_count-requires
-null_count-requires c =
-    let a = c.args in
-    rw c.node_of-k.ensures.value (c.requires.2 c.loop-s.s (omega arith))
 
 pub returns-then-null_count-ne0 : goal.returns-then-null_count-ne0
 returns-then-null_count-ne0 c =

@@ -1,5 +1,4 @@
 -- `sharing::entries_before` meets its contract. The invariant: the sum is that of the sources below s. Assumes nothing.
-use Prim.Native.Nat.{◌-◌}
 use mathlib.Core.Path.{◌≡◌, refl, ap, ◌∙◌}
 use mathlib.Core.Bool.{true}
 use mathlib.Core.List.{[]}
@@ -10,18 +9,6 @@ use Rattle.plan.specs.dictionaries.Sources.{dict_at, capped}
 use Rattle.plan.proofs.dictionaries.Laws.{length_at_lem}
 use Rattle.plan.proofs.dictionaries.Keys.{sum_more, entries_same}
 use Rattle.plan.proofs.dictionaries.entries_before.Goals as goal
-
-pub loop-s-init : goal.loop-s-init
-loop-s-init c = refl
-
-pub node_of-k-requires : goal.node_of-k-requires
-node_of-k-requires c = omega arith
-
-pub length_of-requires : goal.length_of-requires
-length_of-requires c = omega arith
-
-pub add_capped-sum-requires : goal.add_capped-sum-requires
-add_capped-sum-requires c = omega arith
 
 pub loop-s-preserved : goal.loop-s-preserved
 loop-s-preserved c =

@@ -1,13 +1,9 @@
 -- `sharing::has_no_null` meets its contract: no validity, no row, a bit that is not there, or the count. Assumes nothing.
 use mathlib.Core.Path.{sym, ◌∙◌}
-use native.Mathlib.Omega.{arith}
 use Rattle.array_data.specs.lent_tables.Lent.{tables}
 use Rattle.array_data.proofs.lent_tables.Laws.{is_none, is_some}
-use Rattle.plan.proofs.dictionaries.Laws.{count_none, count_empty, absent, absent_by, bytes_are, past_present, countable_by}
+use Rattle.plan.proofs.dictionaries.Laws.{count_none, count_empty, absent, absent_by, bytes_are, past_present}
 use Rattle.plan.proofs.dictionaries.has_no_null.Goals as goal
-
-pub place-requires : goal.place-requires
-place-requires c = omega arith
 
 pub returns-then-place-eq0 : goal.returns-then-place-eq0
 returns-then-place-eq0 c =
@@ -15,41 +11,17 @@ returns-then-place-eq0 c =
     let x = tables a.lengths.now a.places.now a.body.now in
     absent x a.k (count_none x a.k (is_none c.place.ensures c.if-place-eq0.true))
 
-pub length_of-n-requires : goal.length_of-n-requires
-length_of-n-requires c = omega arith
-
 pub returns-then-n-eq0 : goal.returns-then-n-eq0
 returns-then-n-eq0 c =
     let a = c.args in
     let x = tables a.lengths.now a.places.now a.body.now in
     absent x a.k (count_empty x a.k (sym c.length_of-n.ensures ∙ c.if-n-eq0.true))
 
-pub offset_of-off-requires : goal.offset_of-off-requires
-offset_of-off-requires c = omega arith
-
-pub place-from-requires : goal.place-from-requires
-place-from-requires c = omega arith
-
-pub place-requires-2 : goal.place-requires-2
-place-requires-2 c = omega arith
-
-pub part_len-bytes-requires : goal.part_len-bytes-requires
-part_len-bytes-requires c = omega arith
-
-pub bits_fit-requires : goal.bits_fit-requires
-bits_fit-requires c = omega arith
-
 pub returns-then-not-bits_fit : goal.returns-then-not-bits_fit
 returns-then-not-bits_fit c =
     let a = c.args in
     let x = tables a.lengths.now a.places.now a.body.now in
     past_present x a.k (is_some c.place.ensures c.if-place-eq0.false) c.bits_fit.ensures c.offset_of-off.ensures c.length_of-n.ensures (bytes_are x a.k c.part_len-bytes.ensures c.place-from.ensures c.place-2.ensures) c.if-n-eq0.false c.if-not-bits_fit.true-raw
-
-pub null_count-requires : goal.null_count-requires
-null_count-requires c =
-    let a = c.args in
-    let x = tables a.lengths.now a.places.now a.body.now in
-    countable_by x a.k (is_some c.place.ensures c.if-place-eq0.false) c.bits_fit.ensures c.offset_of-off.ensures c.length_of-n.ensures (bytes_are x a.k c.part_len-bytes.ensures c.place-from.ensures c.place-2.ensures) (omega arith) c.if-not-bits_fit.false-raw
 
 pub returns : goal.returns
 returns c =

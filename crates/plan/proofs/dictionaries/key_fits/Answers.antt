@@ -6,9 +6,6 @@ use lib.Dec.{leb}
 use Rattle.plan.proofs.dictionaries.Keys.{key_over, key_none, key_last}
 use Rattle.plan.proofs.dictionaries.key_fits.Goals as goal
 
-pub largest_key-top-requires : goal.largest_key-top-requires
-largest_key-top-requires c = c.requires
-
 pub returns-then-top-start : goal.returns-then-top-start
 returns-then-top-start c =
     let a = c.args in
@@ -18,12 +15,6 @@ pub returns-then-n-eq0 : goal.returns-then-n-eq0
 returns-then-n-eq0 c =
     let a = c.args in
     λ k e. key_none k a.start a.n (c.largest_key-top.ensures k e) (omega arith) (omega arith)
-
-pub overflow_sub-n : goal.overflow_sub-n
-overflow_sub-n c = omega arith
-
-pub fits-requires : goal.fits-requires
-fits-requires c = omega arith
 
 pub returns : goal.returns
 returns c =

@@ -1,37 +1,19 @@
 -- `sharing::null_count` meets its contract: no validity, no row, or the zeros among the bits. Assumes nothing.
 use mathlib.Core.Path.{sym, ◌∙◌}
-use native.Mathlib.Omega.{arith}
 use Rattle.array_data.specs.lent_tables.Lent.{tables}
 use Rattle.array_data.proofs.lent_tables.Laws.{is_none, is_some}
-use Rattle.plan.proofs.dictionaries.Laws.{count_none, count_empty, count_some, slots_inside}
+use Rattle.plan.proofs.dictionaries.Laws.{count_none, count_empty, count_some}
 use Rattle.plan.proofs.dictionaries.null_count.Goals as goal
-
-pub place-requires : goal.place-requires
-place-requires c = omega (arith, c.requires.small)
 
 pub returns-then-place-eq0 : goal.returns-then-place-eq0
 returns-then-place-eq0 c =
     let a = c.args in
     count_none (tables a.lengths.now a.places.now a.body.now) a.k (is_none c.place.ensures c.if-place-eq0.true)
 
-pub length_of-n-requires : goal.length_of-n-requires
-length_of-n-requires c = omega (arith, c.requires.small)
-
 pub returns-then-n-eq0 : goal.returns-then-n-eq0
 returns-then-n-eq0 c =
     let a = c.args in
     count_empty (tables a.lengths.now a.places.now a.body.now) a.k (sym c.length_of-n.ensures ∙ c.if-n-eq0.true)
-
-pub place-from-requires : goal.place-from-requires
-place-from-requires c = omega (arith, c.requires.small)
-
-pub offset_of-off-requires : goal.offset_of-off-requires
-offset_of-off-requires c = omega (arith, c.requires.small)
-
-pub count_zeros-requires : goal.count_zeros-requires
-count_zeros-requires c =
-    let a = c.args in
-    omega (arith, slots_inside (tables a.lengths.now a.places.now a.body.now) a.k (is_some c.place.ensures c.if-place-eq0.false) c.requires.bits (omega arith))
 
 pub returns : goal.returns
 returns c =

@@ -1,34 +1,18 @@
 -- `sharing::same_valid` meets its contract. Assumes nothing.
 use mathlib.Core.Path.{sym, ◌∙◌}
-use native.Mathlib.Omega.{arith}
 use Rattle.array_data.specs.lent_tables.Lent.{tables}
 use Rattle.plan.proofs.dictionaries.Laws.{begin_none, begin_one, begin_both}
 use Rattle.plan.proofs.dictionaries.same_valid.Goals as goal
-
-pub has_no_null-requires : goal.has_no_null-requires
-has_no_null-requires c = omega arith
-
-pub has_no_null-requires-then-has_no_null : goal.has_no_null-requires-then-has_no_null
-has_no_null-requires-then-has_no_null c = omega arith
 
 pub returns-then-has_no_null : goal.returns-then-has_no_null
 returns-then-has_no_null c =
     let a = c.args in
     begin_none (tables a.lengths.now a.places.now a.body.now) a.a a.b (sym c.has_no_null.ensures ∙ c.if-has_no_null.true) c.has_no_null-then-has_no_null.ensures
 
-pub has_no_null-requires-2 : goal.has_no_null-requires-2
-has_no_null-requires-2 c = omega arith
-
 pub returns-then-has_no_null-2 : goal.returns-then-has_no_null-2
 returns-then-has_no_null-2 c =
     let a = c.args in
     begin_one (tables a.lengths.now a.places.now a.body.now) a.a a.b (sym c.has_no_null.ensures ∙ c.if-has_no_null.false) (sym c.has_no_null-2.ensures ∙ c.if-has_no_null-2.true)
-
-pub place-requires : goal.place-requires
-place-requires c = omega arith
-
-pub place-requires-2 : goal.place-requires-2
-place-requires-2 c = omega arith
 
 pub returns : goal.returns
 returns c =

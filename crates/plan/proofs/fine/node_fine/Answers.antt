@@ -10,9 +10,6 @@ returns-then-not-is_copied c =
     let a = c.args in
     λ z. node_none a.plan.now a.counters.now a.parts.now a.m a.i (no c.is_copied.ensures c.if-not-is_copied.true-raw)
 
-pub bits_fine-requires : goal.bits_fine-requires
-bits_fine-requires c = (c.requires, yes c.is_copied.ensures c.if-not-is_copied.false-raw)
-
 pub returns-then-not-bits_fine : goal.returns-then-not-bits_fine
 returns-then-not-bits_fine c = λ z. never z
 
@@ -22,12 +19,6 @@ returns-then-k-eq0 c =
     let k = counted a.plan.now a.i c.code_of-code.ensures c.buffer_count-k.ensures in
     λ z. node_three a.plan.now a.counters.now a.parts.now a.m a.i (c.bits_fine.ensures (yes refl c.if-not-bits_fine.false-raw)) (part_none a.plan.now a.counters.now a.parts.now a.m a.i 1 (no_buffer a.plan.now a.i 0 (omega (arith, k, c.if-k-eq0.true)))) (part_none a.plan.now a.counters.now a.parts.now a.m a.i 2 (no_buffer a.plan.now a.i 1 (omega (arith, k, c.if-k-eq0.true)))) refl refl
 
-pub first_fine-requires : goal.first_fine-requires
-first_fine-requires c =
-    let a = c.args in
-    let k = counted a.plan.now a.i c.code_of-code.ensures c.buffer_count-k.ensures in
-    (c.requires, yes c.is_copied.ensures c.if-not-is_copied.false-raw, c.code_of-code.ensures, omega (arith, k, c.if-k-eq0.false))
-
 pub returns-then-not-first_fine : goal.returns-then-not-first_fine
 returns-then-not-first_fine c = λ z. never z
 
@@ -36,12 +27,6 @@ returns-then-k-eq1 c =
     let a = c.args in
     let k = counted a.plan.now a.i c.code_of-code.ensures c.buffer_count-k.ensures in
     λ z. node_three a.plan.now a.counters.now a.parts.now a.m a.i (c.bits_fine.ensures (yes refl c.if-not-bits_fine.false-raw)) (c.first_fine.ensures (yes refl c.if-not-first_fine.false-raw)) (part_none a.plan.now a.counters.now a.parts.now a.m a.i 2 (no_buffer a.plan.now a.i 1 (omega (arith, k, c.if-k-eq1.true)))) refl refl
-
-pub second_fine-requires : goal.second_fine-requires
-second_fine-requires c =
-    let a = c.args in
-    let k = counted a.plan.now a.i c.code_of-code.ensures c.buffer_count-k.ensures in
-    (c.requires, yes c.is_copied.ensures c.if-not-is_copied.false-raw, c.code_of-code.ensures, omega (arith, k, c.if-k-eq0.false, c.if-k-eq1.false))
 
 pub returns : goal.returns
 returns c =

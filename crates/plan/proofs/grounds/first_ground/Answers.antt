@@ -3,7 +3,6 @@ use mathlib.Core.Path.{◌∙◌}
 use native.Mathlib.Omega.{arith}
 use Rattle.plan.proofs.parts.Laws.{holds_by}
 use Rattle.plan.proofs.parts.Words.{has_buffers}
-use Rattle.plan.specs.parts.Parts.{buffer_count}
 use Rattle.plan.proofs.grounds.Laws.{part_none, part_some, no_buffer, counted}
 use Rattle.plan.proofs.grounds.first_ground.Goals as goal
 

@@ -1,24 +1,10 @@
 -- `plan::grounds::parts_ground` meets its contract. Assumes nothing.
-use mathlib.Core.Path.{refl}
-use Prim.Native.Nat.{◌-◌}
 use native.Mathlib.Omega.{arith}
 use Rattle.plan.proofs.grounds.Laws.{nodes_more, nodes_all}
 use Rattle.plan.proofs.grounds.parts_ground.Goals as goal
 
 pub returns-then-all_fine : goal.returns-then-all_fine
 returns-then-all_fine c = c.all_fine.ensures c.if-all_fine.true
-
-pub node_count-n-requires : goal.node_count-n-requires
-node_count-n-requires c = omega arith
-
-pub loop-i-init : goal.loop-i-init
-loop-i-init c = refl
-
-pub node_ground-requires : goal.node_ground-requires
-node_ground-requires c = omega arith
-
-pub worse-g-requires : goal.worse-g-requires
-worse-g-requires c = omega arith
 
 pub loop-i-preserved : goal.loop-i-preserved
 loop-i-preserved c =

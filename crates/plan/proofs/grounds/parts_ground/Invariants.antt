@@ -1,5 +1,4 @@
 use mathlib.Core.Path.{◌≡◌}
-use Prim.Native.Nat.{◌-◌, ◌≤◌}
 use Rattle.columnar.specs.Test.{every}
 use Rattle.plan.specs.grounds.Verdict.{verdict}
 use Rattle.plan.proofs.grounds.Laws.{within_at, hold_at}

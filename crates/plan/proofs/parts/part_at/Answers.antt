@@ -1,28 +1,10 @@
 -- `parts::part_at` meets its contract. The invariant: what is left of p is looked for from node i on. Assumes nothing.
-use Prim.Native.Nat.{ℕ, ◌-◌}
+use Prim.Native.Nat.{ℕ}
 use mathlib.Core.Path.{ap, sym, ◌∙◌}
 use native.Mathlib.Omega.{arith}
 use Rattle.plan.specs.parts.Parts.{part_from}
 use Rattle.plan.proofs.parts.Laws.{at_here, at_later, at_end}
 use Rattle.plan.proofs.parts.part_at.Goals as goal
-
-pub node_count-n-requires : goal.node_count-n-requires
-node_count-n-requires c = omega arith
-
-pub loop-i-init : goal.loop-i-init
-loop-i-init c = ap (λ (x : ℕ). part_from c.args.plan.now x 0 c.args.p) (omega arith)
-
-pub part_count-count-requires : goal.part_count-count-requires
-part_count-count-requires c = omega arith
-
-pub overflow_add-result : goal.overflow_add-result
-overflow_add-result c = omega arith
-
-pub validity_parts-requires : goal.validity_parts-requires
-validity_parts-requires c = omega arith
-
-pub overflow_sub-result : goal.overflow_sub-result
-overflow_sub-result c = omega arith
 
 pub returns-then-left-count : goal.returns-then-left-count
 returns-then-left-count c =

@@ -1,4 +1,4 @@
-use Prim.Native.Nat.{◌-◌, ◌≤◌}
+use Prim.Native.Nat.{◌-◌}
 use mathlib.Core.Path.{◌≡◌}
 use Rattle.plan.specs.parts.Parts.{part_from}
 use Rattle.plan.proofs.parts.part_at.Given as goal

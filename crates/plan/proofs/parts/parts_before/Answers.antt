@@ -1,5 +1,4 @@
 -- `parts::parts_before` meets its contract. The invariant: the sum is that of the nodes below k. Assumes nothing.
-use Prim.Native.Nat.{◌-◌}
 use mathlib.Core.Path.{refl, ap, ◌∙◌}
 use native.Mathlib.Omega.{arith}
 use Rattle.plan.specs.parts.Parts.{parts_before}
@@ -9,12 +8,6 @@ use Rattle.plan.proofs.parts.parts_before.Goals as goal
 pub loop-k-init : goal.loop-k-init
 unfolding parts_before
 loop-k-init c = (omega arith, refl)
-
-pub part_count-sum-requires : goal.part_count-sum-requires
-part_count-sum-requires c = omega arith
-
-pub overflow_add-sum : goal.overflow_add-sum
-overflow_add-sum c = omega arith
 
 pub loop-k-preserved : goal.loop-k-preserved
 loop-k-preserved c = (omega arith, before_one c.args.plan.now c.loop-k.k _ _ c.loop-k.invariant.1 c.part_count-sum.ensures.value)

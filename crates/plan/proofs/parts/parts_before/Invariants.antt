@@ -1,4 +1,4 @@
-use Prim.Native.Nat.{◌*◌, ◌-◌, ◌≤◌}
+use Prim.Native.Nat.{◌*◌, ◌≤◌}
 use mathlib.Core.Path.{◌≡◌}
 use Rattle.plan.specs.parts.Parts.{parts_before}
 use Rattle.plan.proofs.parts.parts_before.Given as goal

@@ -1,6 +1,5 @@
 -- `parts::parts_within` meets its contract. The invariant: the parts of the nodes below i lie well. Assumes nothing.
-use Prim.Native.Nat.{◌-◌}
-use mathlib.Core.Path.{refl, sym}
+use mathlib.Core.Path.{sym}
 use native.Mathlib.Omega.{arith}
 use Rattle.columnar.specs.Test.{every}
 use Rattle.columnar.proofs.Test.{every_false}
@@ -8,15 +7,6 @@ use Rattle.array_data.proofs.lent_tables.Laws.{no, yes}
 use Rattle.plan.specs.parts.Parts.{nodes_of, part_within, parts_within}
 use Rattle.plan.proofs.parts.Laws.{every_one, every_now}
 use Rattle.plan.proofs.parts.parts_within.Goals as goal
-
-pub node_count-n-requires : goal.node_count-n-requires
-node_count-n-requires c = omega arith
-
-pub loop-i-init : goal.loop-i-init
-loop-i-init c = refl
-
-pub node_within-requires : goal.node_within-requires
-node_within-requires c = omega arith
 
 pub returns-then-not-node_within : goal.returns-then-not-node_within
 unfolding parts_within

@@ -1,6 +1,5 @@
 -- `parts::all_apart` meets its contract. The invariant: the parts below p are apart. Assumes nothing.
-use Prim.Native.Nat.{◌-◌}
-use mathlib.Core.Path.{refl, sym}
+use mathlib.Core.Path.{sym}
 use native.Mathlib.Omega.{arith}
 use Rattle.columnar.specs.Test.{every}
 use Rattle.columnar.proofs.Test.{every_false}
@@ -8,12 +7,6 @@ use Rattle.array_data.proofs.lent_tables.Laws.{no, yes}
 use Rattle.plan.specs.parts.Parts.{apart}
 use Rattle.plan.proofs.parts.Laws.{every_one, every_now}
 use Rattle.plan.proofs.placed.all_apart.Goals as goal
-
-pub loop-p-init : goal.loop-p-init
-loop-p-init c = refl
-
-pub is_apart-requires : goal.is_apart-requires
-is_apart-requires c = omega arith
 
 pub returns-then-not-is_apart : goal.returns-then-not-is_apart
 returns-then-not-is_apart c = sym (every_false (λ r. every (λ q. apart c.args.parts.now r q) r) c.args.count c.loop-p.p (omega arith) (no c.is_apart.ensures c.if-not-is_apart.true-raw))

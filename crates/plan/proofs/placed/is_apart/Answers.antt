@@ -1,18 +1,11 @@
 -- `parts::is_apart` meets its contract. The invariant: part p is apart from those below q. Assumes nothing.
-use Prim.Native.Nat.{◌-◌}
-use mathlib.Core.Path.{refl, sym}
+use mathlib.Core.Path.{sym}
 use native.Mathlib.Omega.{arith}
 use Rattle.columnar.proofs.Test.{every_false}
 use Rattle.array_data.proofs.lent_tables.Laws.{no, yes}
 use Rattle.plan.specs.parts.Parts.{apart}
 use Rattle.plan.proofs.parts.Laws.{every_one, every_now}
 use Rattle.plan.proofs.placed.is_apart.Goals as goal
-
-pub loop-q-init : goal.loop-q-init
-loop-q-init c = refl
-
-pub are_apart-requires : goal.are_apart-requires
-are_apart-requires c = omega arith
 
 pub returns-then-not-are_apart : goal.returns-then-not-are_apart
 returns-then-not-are_apart c = sym (every_false (λ r. apart c.args.parts.now c.args.p r) c.args.p c.loop-q.q (omega arith) (no c.are_apart.ensures c.if-not-are_apart.true-raw))

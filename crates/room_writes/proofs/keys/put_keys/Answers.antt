@@ -5,14 +5,9 @@ use mathlib.Core.Path.{sym, ap, ◌∙◌}
 use lib.ListN.{length}
 use Rattle.schema.specs.formats.Code.{width_of}
 use Rattle.utils.specs.primitive.Primitive.{rebased}
-use Rattle.room_writes.proofs.Bytes.{length_rebased, width_in_lem}
+use Rattle.room_writes.proofs.Bytes.{length_rebased}
 use Rattle.walk.specs.State.{scaled}
 use Rattle.room_writes.proofs.keys.put_keys.Goals as goal
-
-pub scale-requires : goal.scale-requires
-scale-requires c =
-    let a = c.args in
-    width_in_lem a.w c.requires.w_value
 
 pub write_keys-requires : goal.write_keys-requires
 write_keys-requires c =

@@ -1,7 +1,8 @@
 -- `puts::write_keys` meets its contract. Assumes nothing.
-use native.Mathlib.Omega.{arith}
 use mathlib.Core.Path.{◌≡◌, ap, ◌∙◌}
 use Prim.Native.Nat.{ℕ, ◌*◌}
+use mathlib.Core.List.{List}
+use Rattle.number.specs.Number.{splice}
 use Rattle.schema.specs.formats.Code.{width_of}
 use Rattle.room_writes.proofs.keys.write_keys.Goals as goal
 

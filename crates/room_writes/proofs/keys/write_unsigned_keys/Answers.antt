@@ -1,9 +1,11 @@
 -- `puts::write_unsigned_keys` meets its contract. Assumes nothing.
 use native.Mathlib.Omega.{arith}
-use mathlib.Core.Path.{ap}
+use mathlib.Core.Path.{ap, ◌∙◌}
 use Prim.Native.Nat.{ℕ, ◌*◌}
 use Rattle.room_writes.proofs.Bytes.{rebased_cut}
 use Rattle.room_writes.proofs.keys.write_unsigned_keys.Goals as goal
+use mathlib.Core.List.{List}
+use Rattle.number.specs.Number.{splice}
 
 pub extend_with_offset-requires : goal.extend_with_offset-requires
 extend_with_offset-requires c =

@@ -4,14 +4,8 @@ use Rattle.room_writes.proofs.Laws.{alike_sized, made, put_at, put_skip, times_w
 use lib.ListN.{length}
 use Rattle.run_ends.specs.Clip.{clipped}
 use Rattle.run_ends.proofs.Laws.{length_clipped}
-use Rattle.room_writes.proofs.Bytes.{width_in_lem}
 use Rattle.walk.specs.State.{scaled}
 use Rattle.room_writes.proofs.run.put_run_ends.Goals as goal
-
-pub scale-requires : goal.scale-requires
-scale-requires c =
-    let a = c.args in
-    width_in_lem a.w (λ p. c.requires.w_value)
 
 pub write_run_ends-requires : goal.write_run_ends-requires
 write_run_ends-requires c =

@@ -3,14 +3,9 @@ use native.Mathlib.Omega.{arith}
 use Rattle.room_writes.proofs.Laws.{alike_sized, made, put_at, put_skip, times_within}
 use lib.ListN.{length}
 use Rattle.utils.specs.Offsets.{moved_offsets}
-use Rattle.room_writes.proofs.Bytes.{length_moved, width_in_lem}
+use Rattle.room_writes.proofs.Bytes.{length_moved}
 use Rattle.walk.specs.State.{scaled}
 use Rattle.room_writes.proofs.variable_size.put_offsets.Goals as goal
-
-pub scale-requires : goal.scale-requires
-scale-requires c =
-    let a = c.args in
-    width_in_lem a.w (λ p q. c.requires.w_value)
 
 pub write_offsets-requires : goal.write_offsets-requires
 write_offsets-requires c =

@@ -3,14 +3,9 @@ use native.Mathlib.Omega.{arith}
 use Rattle.room_writes.proofs.Laws.{alike_sized, made, put_at, put_skip, times_within}
 use lib.ListN.{length}
 use Rattle.utils.specs.Offsets.{repeated}
-use Rattle.room_writes.proofs.Bytes.{length_repeated, width_in_lem}
+use Rattle.room_writes.proofs.Bytes.{length_repeated}
 use Rattle.walk.specs.State.{scaled}
 use Rattle.room_writes.proofs.variable_size.put_repeated.Goals as goal
-
-pub scale-requires : goal.scale-requires
-scale-requires c =
-    let a = c.args in
-    width_in_lem a.w (λ p q. c.requires.w_value)
 
 pub write_repeated-requires : goal.write_repeated-requires
 write_repeated-requires c =

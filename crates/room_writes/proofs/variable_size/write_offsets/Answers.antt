@@ -1,9 +1,11 @@
 -- `puts::write_offsets` meets its contract. Assumes nothing.
 use native.Mathlib.Omega.{arith}
-use mathlib.Core.Path.{ap}
+use mathlib.Core.Path.{ap, ◌∙◌}
 use Prim.Native.Nat.{ℕ, ◌*◌}
 use Rattle.room_writes.proofs.Bytes.{moved_cut}
 use Rattle.room_writes.proofs.variable_size.write_offsets.Goals as goal
+use mathlib.Core.List.{List}
+use Rattle.number.specs.Number.{splice}
 
 pub extend_offsets-requires : goal.extend_offsets-requires
 extend_offsets-requires c =

@@ -1,9 +1,11 @@
 -- `puts::write_repeated` meets its contract. Assumes nothing.
 use native.Mathlib.Omega.{arith}
-use mathlib.Core.Path.{ap}
+use mathlib.Core.Path.{ap, ◌∙◌}
 use Prim.Native.Nat.{ℕ, ◌*◌}
 use Rattle.room_writes.proofs.Bytes.{repeated_cut}
 use Rattle.room_writes.proofs.variable_size.write_repeated.Goals as goal
+use mathlib.Core.List.{List}
+use Rattle.number.specs.Number.{splice}
 
 pub repeat_offset-requires : goal.repeat_offset-requires
 repeat_offset-requires c =
