@@ -10,6 +10,7 @@ use lib.ListN.{length, take, drop, set, length-take, length-drop}
 use lib.Seq.{set_split, append_snoc, drop-drop}
 use lib.Dec.{leb, ltb, eqb}
 use borrow.Author.Tests.{le-leb, lt-leb, leb-true, leb-false, lt-ltb, le-ltb, eq-eqb, ne_eqb, eqb-true}
+use Rattle.std.specs.Prelude.{Option, Some, None}
 use Rattle.number.specs.Number.{splice}
 use Rattle.number.proofs.Laws.{splice_splice, splice_nil, length_splice}
 use Rattle.schema.specs.formats.Code.{is_fixed, is_string, is_view, is_list_view, is_list, is_union, is_sparse, is_run_end, width_of}
@@ -30,8 +31,6 @@ use Rattle.slot_reader.specs.declared.RowRead.{RowRead}
 use Rattle.slot_reader.specs.declared.RowRead.TheVariants as row
 use Rattle.slot_reader.specs.Slots.{code_word, code_number, known, kind_word, slot_by, slot_read}
 use Rattle.slot_reader.proofs.Codes.{knows, as_fixed, as_string, as_view, as_list_view, as_list, as_union, as_run, unknown}
-use Rattle.row_reader.specs.declared.Child.{Child}
-use Rattle.row_reader.specs.declared.Child.TheVariants as child
 use Rattle.row_reader.specs.declared.Step.{Step}
 use Rattle.row_reader.specs.declared.Step.TheVariants as step
 use Rattle.row_reader.specs.Walk.{refused, end_word, child_from, child_of, chosen, into, under_id, code_width, ends_in, run_in, ran, run_of, runs_step, run_at, step_by, step_on, sighted, step_at, Walked, walked_to, under, follow, walk, is_refused, kept, row_at}
@@ -49,11 +48,11 @@ module _ (tree : List ℕ) where
   end_small i c e h = omega arith
 
   module _ (id end c node : ℕ) where
-    pub from_past : c < 16 → end ≤ node → child_from tree id end (16 - c) node ≡ child.Missing
+    pub from_past : c < 16 → end ≤ node → child_from tree id end (16 - c) node ≡ None
     unfolding child_from
     from_past l h = let e : 16 - c ≡ suc (16 - (c + 1)) = omega arith in rw (e, le-ltb node end h)
 
-    pub from_here : c < 16 → node < end → word tree node 3 ≡ id → child_from tree id end (16 - c) node ≡ child.Node node
+    pub from_here : c < 16 → node < end → word tree node 3 ≡ id → child_from tree id end (16 - c) node ≡ Some node
     unfolding child_from
     from_here l h q = let e : 16 - c ≡ suc (16 - (c + 1)) = omega arith in rw (e, lt-ltb node end h, eq-eqb (word tree node 3) id q)
 
@@ -61,7 +60,7 @@ module _ (tree : List ℕ) where
     unfolding child_from
     from_next l h q = let e : 16 - c ≡ suc (16 - (c + 1)) = omega arith in rw (e, lt-ltb node end h, ne_eqb (word tree node 3) id q)
 
-    pub from_last : 16 ≤ c → child_from tree id end (16 - c) node ≡ child.Missing
+    pub from_last : 16 ≤ c → child_from tree id end (16 - c) node ≡ None
     unfolding child_from
     from_last l = let e : 16 - c ≡ 0 = omega arith in rw e
 
@@ -70,7 +69,7 @@ module _ (tree : List ℕ) where
     unfolding into
     into_big h = rw (lt-leb id 127 h)
 
-    pub into_child : (c : Child) → c ≡ child_of tree i id → id ≤ 127 → chosen tree id r c ≡ into tree i id r
+    pub into_child : (c : Option ℕ) → c ≡ child_of tree i id → id ≤ 127 → chosen tree id r c ≡ into tree i id r
     unfolding into
     into_child c e h = rw (le-leb id 127 h) (ap (chosen tree id r) e)
 

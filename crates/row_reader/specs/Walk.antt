@@ -1,6 +1,6 @@
 -- A row of a lent column, level by level: 01, "A row is read from the top of the tree downward, at most eight levels." A node's row i is
 -- the slot with its offset added. Ground 12 where the body does not hold what is read. Assumes nothing.
-use Rattle.std.specs.Prelude.{Bool, true, false, cond, ◌&&◌, List, [], ◌∷◌, ℕ, zero, suc, ◌+◌, ◌*◌, ◌-◌, ◌^◌, min, length, take, drop, leb, ltb, eqb}
+use Rattle.std.specs.Prelude.{Bool, true, false, cond, ◌&&◌, List, [], ◌∷◌, ℕ, zero, suc, ◌+◌, ◌*◌, ◌-◌, ◌^◌, min, length, take, drop, leb, ltb, eqb, Option, Some, None}
 use Rattle.schema.specs.formats.Code.{is_run_end, width_of}
 use Rattle.array_data.specs.Tables.{Tables, length_of, offset_of, place, valid_of, first_buffer, second_buffer}
 use Rattle.array_data.specs.NodeKinds.{NodeKind, fixed_node, string_node, view_node, list_view_node, list_node, sparse_node, dense_node, run_end_node, dictionary_node}
@@ -16,8 +16,6 @@ use Rattle.array_data.specs.declared.entries.Validity.TheVariants as validity
 use Rattle.slot_reader.specs.declared.RowRead.{RowRead}
 use Rattle.slot_reader.specs.declared.RowRead.TheVariants as row
 use Rattle.slot_reader.specs.Slots.{code_word, known, kind_word, slot_by}
-use Rattle.row_reader.specs.declared.Child.{Child}
-use Rattle.row_reader.specs.declared.Child.TheVariants as child
 use Rattle.row_reader.specs.declared.Step.{Step}
 use Rattle.row_reader.specs.declared.Step.TheVariants as step
 
@@ -33,18 +31,18 @@ module _ (tree : List ℕ) where
   end_word i = min (word tree i 2) 32
 
   -- the first of the f nodes one behind the other from node i on that has this id, before `end`
-  unfoldable pub child_from : ℕ → ℕ → ℕ → ℕ → Child
-  child_from id end zero i = child.Missing
+  unfoldable pub child_from : ℕ → ℕ → ℕ → ℕ → Option ℕ
+  child_from id end zero i = None
   child_from id end (suc f) i =
-      cond (ltb i end) (cond (eqb (word tree i 3) id) (child.Node i) (child_from id end f (word tree i 2))) child.Missing
+      cond (ltb i end) (cond (eqb (word tree i 3) id) (Some i) (child_from id end f (word tree i 2))) None
 
   -- the child of node i that has this id: "at most 16 union fields"
-  abbrev pub child_of : ℕ → ℕ → Child
+  abbrev pub child_of : ℕ → ℕ → Option ℕ
   child_of i id = child_from id (end_word i) 16 (suc i)
 
-  abbrev pub chosen : ℕ → ℕ → Child → Step
-  chosen id r (child.Node j) = step.Choose id j r
-  chosen id r child.Missing = refused 12
+  abbrev pub chosen : ℕ → ℕ → Option ℕ → Step
+  chosen id r (Some j) = step.Choose id j r
+  chosen id r None = refused 12
 
   -- on to row r of the child with this id: "ids 0 to 127"
   unfoldable pub into : ℕ → ℕ → ℕ → Step

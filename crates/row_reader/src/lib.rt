@@ -26,13 +26,6 @@ pub enum Step {
     Choose { id: u8, node: usize, row: u64 },
 }
 
-// A union's child.
-#[derive(Clone, Copy)]
-pub enum Child {
-    Node(usize),
-    Missing,
-}
-
 // A row with the ids of the unions on the way to it: the first `count` of `ids`.
 #[derive(Clone, Copy)]
 struct Reading {

@@ -6,7 +6,7 @@ ghost use Rattle.array_data.specs.entries.Entries.{column, entry_in};
 ghost use Rattle.array_data.specs.declared.entries.Entry.TheVariants.{Value};
 ghost use Rattle.row_reader.specs.Walk.{end_word, child_of, into, under_id};
 
-use crate::{Child, Step};
+use crate::Step;
 use array_data::entries::Entry;
 use array_data::{entries, node_words};
 use slot_reader::RowRead;
@@ -25,7 +25,7 @@ fn end_word(tree: &[u64], i: usize) -> usize
 }
 
 // The child of the union node i that has this id.
-fn find_child(tree: &[u64], i: usize, id: u64) -> Child
+fn find_child(tree: &[u64], i: usize, id: u64) -> Option<usize>
     requires { i < 2 ^ 32 }
     ensures { result ≡ child_of (was tree) i id }
 {
@@ -33,14 +33,14 @@ fn find_child(tree: &[u64], i: usize, id: u64) -> Child
     let mut node = i + 1;
     for c in 0..16usize {
         if end <= node {
-            return Child::Missing;
+            return None;
         }
         if node_words::word(tree, node, 3) == id {
-            return Child::Node(node);
+            return Some(node);
         }
         node = node_words::word(tree, node, 2) as usize;
     }
-    Child::Missing
+    None
 }
 
 // On to row `row` of the child with this id.
@@ -52,12 +52,12 @@ fn step_into(tree: &[u64], i: usize, id: u64, row: u64) -> Step
         return Step::Done(RowRead::Refused(12));
     }
     match find_child(tree, i, id) {
-        Child::Node(node) => Step::Choose {
+        Some(node) => Step::Choose {
             id: id as u8,
             node,
             row,
         },
-        Child::Missing => Step::Done(RowRead::Refused(12)),
+        None => Step::Done(RowRead::Refused(12)),
     }
 }
 

@@ -8,6 +8,7 @@ use native.Mathlib.Omega.{arith}
 use lib.ListN.{length, get_or}
 use lib.Dec.{ltb, eqb}
 use borrow.Author.Tests.{lt-ltb, le-ltb, eq-eqb, ne_eqb, eqb-true, eqb-false, ltb-true, ltb-false}
+use Rattle.std.specs.Prelude.{Some, None}
 use Rattle.columnar.specs.Row.{seg}
 use Rattle.schema.specs.Tree.{dictionary, below, end_of, child_at, whole, code_of, ids_of}
 use Rattle.schema.proofs.Trees.{end_after, child_inside, children_end}
@@ -15,8 +16,6 @@ use Rattle.schema.proofs.Depth.{nested, child_before}
 use Rattle.array_data.specs.Typed.{field_of}
 use Rattle.array_data.specs.node_words.Words.{word, id_from, id_below, word_of, planted, id_under, child_id}
 use Rattle.array_data.proofs.node_words.Laws.{zeroth, first_word, second_word, third_word, holds, holds_not}
-use Rattle.row_reader.specs.declared.Child.{Child}
-use Rattle.row_reader.specs.declared.Child.TheVariants as child
 use Rattle.row_reader.specs.Walk.{end_word, child_from, child_of}
 use Rattle.array_data.proofs.Names.{ids_or}
 
@@ -125,7 +124,7 @@ module _ (formats schema : List ℕ) (first n : ℕ) (w : whole schema first n �
 
       find : (ds : List ℕ) (c f j : ℕ) → Memᴰ c ds → length ds ≤ f → j + length ds ≤ length ids
           → ((k : ℕ) → k < length ds → child_id formats schema first n (at (j + k)) ≡ get_or ds k 0)
-          → child_from (words formats schema first n) c (end_word (words formats schema first n) i) f (at j) ≡ child.Node (at (j + field_of ds c))
+          → child_from (words formats schema first n) c (end_word (words formats schema first n) i) f (at j) ≡ Some (at (j + field_of ds c))
       unfolding child_from
       find [] c f j m a b h = absurd (Memᴰ.not-nil m)
       find (d ∷ ds) c zero j m a b h = absurd (omega arith)
@@ -146,13 +145,13 @@ module _ (formats schema : List ℕ) (first n : ℕ) (w : whole schema first n �
           Goal : ℕ → Type 0
           Goal k =
               cond (ltb (at j) (end_word (words formats schema first n) i))
-              (cond (eqb (word (words formats schema first n) (at j) 3) c) (child.Node (at j))
+              (cond (eqb (word (words formats schema first n) (at j) 3) c) (Some (at j))
               (child_from (words formats schema first n) c (end_word (words formats schema first n) i) f (word (words formats schema first n) (at j) 2)))
-              child.Missing
-              ≡ child.Node (at (j + k))
+              None
+              ≡ Some (at (j + k))
 
           go : (t : Bool) → eqb c d ≡ t → Memᴰ c (d ∷ ds)
-              → (Memᴰ c ds → child_from (words formats schema first n) c (end_word (words formats schema first n) i) f (at (suc j)) ≡ child.Node (at (suc j + field_of ds c)))
+              → (Memᴰ c ds → child_from (words formats schema first n) c (end_word (words formats schema first n) i) f (at (suc j)) ≡ Some (at (suc j + field_of ds c)))
               → Goal (cond t 0 (suc (field_of ds c)))
           go true e q ih =
               let z : j + 0 ≡ j = omega arith in
@@ -163,9 +162,9 @@ module _ (formats schema : List ℕ) (first n : ℕ) (w : whole schema first n �
               rw (lt-ltb (at j) (end_word (words formats schema first n) i) (ends_behind j (omega arith)), id_is, ne_eqb d c (λ s. eqb-false c d e (sym s)), next_is, z) (ih p)
 
       -- THE CHILD found by its id is the one that the type tree has
-      pub found_child : (c : ℕ) → Memᴰ c ids → length ids ≤ 16 → child_of (words formats schema first n) i c ≡ child.Node (child_at schema first n i (field_of ids c))
+      pub found_child : (c : ℕ) → Memᴰ c ids → length ids ≤ 16 → child_of (words formats schema first n) i c ≡ Some (child_at schema first n i (field_of ids c))
       found_child c m a =
           let z : 0 + field_of ids c ≡ field_of ids c = omega arith in
-          subst (λ s. child_from (words formats schema first n) c (end_word (words formats schema first n) i) 16 s ≡ child.Node (at (field_of ids c))) at_zero
-          (subst (λ k. child_from (words formats schema first n) c (end_word (words formats schema first n) i) 16 (at 0) ≡ child.Node (at k)) z
+          subst (λ s. child_from (words formats schema first n) c (end_word (words formats schema first n) i) 16 s ≡ Some (at (field_of ids c))) at_zero
+          (subst (λ k. child_from (words formats schema first n) c (end_word (words formats schema first n) i) 16 (at 0) ≡ Some (at k)) z
           (find ids c 16 0 m a (omega arith) (λ k h. let y : 0 + k ≡ k = omega arith in subst (λ q. child_id formats schema first n (at q) ≡ get_or ids k 0) (sym y) (child_id_lem k h))))

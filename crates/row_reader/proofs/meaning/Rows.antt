@@ -10,6 +10,7 @@ use native.Mathlib.Omega.{arith}
 use lib.ListN.{length, get_or}
 use lib.Dec.{T, leb, ltb}
 use borrow.Author.Tests.{le-leb, lt-ltb, leb-true}
+use Rattle.std.specs.Prelude.{}
 use Rattle.columnar.specs.Row.{Row, null, bytes, union}
 use Rattle.columnar.specs.Types.{Number, width, Plain, fixed, string, Ty, t_plain, t_view, t_list_view, t_list, t_sparse, t_dense, t_run_end, t_dictionary}
 use Rattle.columnar.specs.Formed.{OffsetWidth, RunWidth, FormedPlain, Ids}
@@ -43,7 +44,6 @@ use Rattle.slot_reader.specs.Slots.{known, kind_word, list_view_read, list_read,
 use Rattle.array_data.specs.node_words.Words.{planted}
 use Rattle.row_reader.specs.declared.Step.{Step}
 use Rattle.row_reader.specs.declared.Step.TheVariants as step
-use Rattle.row_reader.specs.declared.Child.TheVariants as child
 use Rattle.row_reader.specs.Walk.{child_of, chosen, into, under_id, ran, run_of, runs_step, step_by, step_on, sighted, step_at, Walked, walked_to, under, follow, walk, is_refused, kept, row_at}
 use Rattle.row_reader.proofs.Laws.{at_slot}
 use Rattle.row_reader.specs.meaning.Meaning.{flat, meaning}

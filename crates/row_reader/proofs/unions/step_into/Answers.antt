@@ -8,12 +8,12 @@ use Rattle.row_reader.proofs.unions.step_into.Goals as goal
 pub returns-then-id-gt127 : goal.returns-then-id-gt127
 returns-then-id-gt127 c = into_big c.args.tree.now c.args.i c.args.id c.args.row (omega arith)
 
-pub returns-in-Node : goal.returns-in-Node
-returns-in-Node c =
+pub returns-in-Some : goal.returns-in-Some
+returns-in-Some c =
     let z = c.args in
-    ap (chosen z.tree.now z.id z.row) (sym c.in-Node.is) ∙ into_child z.tree.now z.i z.id z.row _ c.find_child.ensures (omega arith)
+    ap (chosen z.tree.now z.id z.row) (sym c.in-Some.is) ∙ into_child z.tree.now z.i z.id z.row _ c.find_child.ensures (omega arith)
 
-pub returns-in-Missing : goal.returns-in-Missing
-returns-in-Missing c =
+pub returns-in-None : goal.returns-in-None
+returns-in-None c =
     let z = c.args in
-    ap (chosen z.tree.now z.id z.row) (sym c.in-Missing.is) ∙ into_child z.tree.now z.i z.id z.row _ c.find_child.ensures (omega arith)
+    ap (chosen z.tree.now z.id z.row) (sym c.in-None.is) ∙ into_child z.tree.now z.i z.id z.row _ c.find_child.ensures (omega arith)
