@@ -7,8 +7,7 @@ use native.Mathlib.Omega.{arith}
 use lib.ListN.{length, set}
 use lib.Dec.{eqb}
 use borrow.Author.Tests.{eq-eqb, ne_eqb}
-use Rattle.row_reader.specs.declared.row_pair.SameAnswer.{SameAnswer}
-use Rattle.row_reader.specs.declared.row_pair.SameAnswer.TheVariants as same
+use Rattle.std.specs.Prelude.{Result, Ok, Err}
 use Rattle.lafkuno.specs.Sums.{flag_of}
 use Rattle.lafkuno.specs.Same.{same_ground, same_numbers}
 
@@ -17,12 +16,12 @@ one_set [] k h = absurd (omega arith)
 one_set (x ∷ []) k h = refl
 one_set (x ∷ y ∷ s) k h = absurd (omega arith)
 
-module _ (a : SameAnswer) (answer : List ℕ) where
-  pub same_short : (length answer ≡ 1 → ⊥) → (t : Bool) → a ≡ same.Told t → (14 ≡ same_ground a answer) × (answer ≡ same_numbers a answer)
+module _ (a : Result Bool ℕ) (answer : List ℕ) where
+  pub same_short : (length answer ≡ 1 → ⊥) → (t : Bool) → a ≡ Ok t → (14 ≡ same_ground a answer) × (answer ≡ same_numbers a answer)
   unfolding same_ground same_numbers
   same_short h t e = rw e (rw (ne_eqb (length answer) 1 h), rw (ne_eqb (length answer) 1 h))
 
-  pub same_refused : (g : ℕ) → a ≡ same.Refused g → (g ≡ same_ground a answer) × (answer ≡ same_numbers a answer)
+  pub same_refused : (g : ℕ) → a ≡ Err g → (g ≡ same_ground a answer) × (answer ≡ same_numbers a answer)
   unfolding same_ground same_numbers
   same_refused g e = rw e (refl, alike (eqb (length answer) 1))
     where
@@ -30,6 +29,6 @@ module _ (a : SameAnswer) (answer : List ℕ) where
       alike true = refl
       alike false = refl
 
-  pub same_told : length answer ≡ 1 → (t : Bool) → a ≡ same.Told t → (k : ℕ) → k ≡ flag_of t → (0 ≡ same_ground a answer) × (set answer 0 k ≡ same_numbers a answer)
+  pub same_told : length answer ≡ 1 → (t : Bool) → a ≡ Ok t → (k : ℕ) → k ≡ flag_of t → (0 ≡ same_ground a answer) × (set answer 0 k ≡ same_numbers a answer)
   unfolding same_ground same_numbers
   same_told h t e k f = rw e (rw (eq-eqb (length answer) 1 h), one_set answer k h ∙ ap (λ j. j ∷ []) f ∙ rw (eq-eqb (length answer) 1 h))

@@ -7,7 +7,6 @@ ghost use Rattle.lafkuno.specs.Same.{same_ground, same_numbers};
 
 use crate::means;
 use row_reader::row_pair;
-use row_reader::row_pair::SameAnswer;
 
 const WRONG_SIZE: u8 = 14;
 
@@ -35,13 +34,13 @@ pub extern "C" fn lafkuno_same_row(
     match row_pair::same_row(
         formats, schema, lengths, places, buffers, body, first_a, n_a, first_b, n_b, row_a, row_b,
     ) {
-        SameAnswer::Told(same) => {
+        Ok(same) => {
             if answer.len() != 1 {
                 return WRONG_SIZE;
             }
             answer[0] = means::flag(same);
             0
         }
-        SameAnswer::Refused(refusal) => refusal,
+        Err(refusal) => refusal,
     }
 }

@@ -10,6 +10,7 @@ use lib.ListN.{length, take, drop, set, length-take, length-drop}
 use lib.Seq.{set_split, append_snoc, drop-drop}
 use lib.Dec.{leb, ltb, eqb}
 use borrow.Author.Tests.{le-leb, lt-leb, leb-true, leb-false, lt-ltb, le-ltb, eq-eqb, ne_eqb, eqb-true}
+use Rattle.std.specs.Prelude.{Option, Some, None}
 use Rattle.number.specs.Number.{splice}
 use Rattle.number.proofs.Laws.{splice_splice, splice_nil, length_splice}
 use Rattle.schema.specs.formats.Code.{is_fixed, is_string, is_view, is_list_view, is_list, is_union, is_sparse, is_run_end, width_of}

@@ -1,6 +1,6 @@
 -- A row of a lent column, level by level: 01, "A row is read from the top of the tree downward, at most eight levels." A node's row i is
 -- the slot with its offset added. Ground 12 where the body does not hold what is read. Assumes nothing.
-use Rattle.std.specs.Prelude.{Bool, true, false, cond, ◌&&◌, List, [], ◌∷◌, ℕ, zero, suc, ◌+◌, ◌*◌, ◌-◌, ◌^◌, min, length, take, drop, leb, ltb, eqb}
+use Rattle.std.specs.Prelude.{Bool, true, false, cond, ◌&&◌, List, [], ◌∷◌, ℕ, zero, suc, ◌+◌, ◌*◌, ◌-◌, ◌^◌, min, length, take, drop, leb, ltb, eqb, Option, Some, None}
 use Rattle.schema.specs.formats.Code.{is_run_end, width_of}
 use Rattle.array_data.specs.Tables.{Tables, length_of, offset_of, place, valid_of, first_buffer, second_buffer}
 use Rattle.array_data.specs.NodeKinds.{NodeKind, fixed_node, string_node, view_node, list_view_node, list_node, sparse_node, dense_node, run_end_node, dictionary_node}

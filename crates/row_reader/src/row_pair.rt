@@ -15,13 +15,6 @@ pub const NO_SUCH_ROW: u8 = 2;
 
 pub const NO_NUMBERS: u8 = 10;
 
-// Whether both rows read the same; or the ground of refusal.
-#[derive(Clone, Copy)]
-pub enum SameAnswer {
-    Told(bool),
-    Refused(u8),
-}
-
 // ---- which columns
 
 // Whether node i holds numbers and not keys.
@@ -139,14 +132,14 @@ pub fn same_row(
     n_b: u32,
     row_a: u64,
     row_b: u64,
-) -> SameAnswer
+) -> Result<bool, u8>
     ensures { result ≡ same_row (was formats) (was schema) (tables_of (was lengths) (was places) (was buffers) (was body)) first_a n_a first_b n_b row_a row_b }
 {
     let refusal = rows_ground(
         formats, schema, lengths, places, buffers, body, first_a, n_a, first_b, n_b, row_a, row_b,
     );
     if refusal != 0 {
-        return SameAnswer::Refused(refusal);
+        return Err(refusal);
     }
     let a = leaf_at(
         formats, schema, lengths, places, buffers, body, first_a, n_a, row_a,
@@ -154,5 +147,5 @@ pub fn same_row(
     let b = leaf_at(
         formats, schema, lengths, places, buffers, body, first_b, n_b, row_b,
     );
-    SameAnswer::Told(slot_reader::leaf_row::same_leaf(a, b))
+    Ok(slot_reader::leaf_row::same_leaf(a, b))
 }

@@ -8,6 +8,7 @@ use native.Mathlib.Omega.{arith}
 use lib.ListN.{length, get_or}
 use lib.Dec.{ltb, eqb}
 use borrow.Author.Tests.{lt-ltb, le-ltb, eq-eqb, ne_eqb, eqb-true, eqb-false, ltb-true, ltb-false}
+use Rattle.std.specs.Prelude.{Some, None}
 use Rattle.columnar.specs.Row.{seg}
 use Rattle.schema.specs.Tree.{dictionary, below, end_of, child_at, whole, code_of, ids_of}
 use Rattle.schema.proofs.Trees.{end_after, child_inside, children_end}
@@ -15,7 +16,6 @@ use Rattle.schema.proofs.Depth.{nested, child_before}
 use Rattle.array_data.specs.Typed.{field_of}
 use Rattle.array_data.specs.node_words.Words.{word, id_from, id_below, word_of, planted, id_under, child_id}
 use Rattle.array_data.proofs.node_words.Laws.{zeroth, first_word, second_word, third_word, holds, holds_not}
-use Rattle.std.specs.Prelude.{Some, None}
 use Rattle.row_reader.specs.Walk.{end_word, child_from, child_of}
 use Rattle.array_data.proofs.Names.{ids_or}
 

@@ -10,6 +10,7 @@ use native.Mathlib.Omega.{arith}
 use lib.ListN.{length, get_or}
 use lib.Dec.{T, leb, ltb}
 use borrow.Author.Tests.{le-leb, lt-ltb, leb-true}
+use Rattle.std.specs.Prelude.{}
 use Rattle.columnar.specs.Row.{Row, null, bytes, union}
 use Rattle.columnar.specs.Types.{Number, width, Plain, fixed, string, Ty, t_plain, t_view, t_list_view, t_list, t_sparse, t_dense, t_run_end, t_dictionary}
 use Rattle.columnar.specs.Formed.{OffsetWidth, RunWidth, FormedPlain, Ids}

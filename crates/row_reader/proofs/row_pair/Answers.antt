@@ -7,6 +7,7 @@ use native.Mathlib.Omega.{arith}
 use lib.ListN.{get_or}
 use lib.Dec.{ltb, eqb}
 use borrow.Author.Tests.{eqb-true, eqb-false, eq-eqb, ne_eqb, ltb-true, lt-ltb, le-ltb}
+use Rattle.std.specs.Prelude.{Result, Ok, Err}
 use Rattle.array_data.specs.Tables.{Tables, length_of}
 use Rattle.array_data.specs.Typed.{tables_from}
 use Rattle.array_data.specs.type_tree.Lent.{type_of}
@@ -15,8 +16,6 @@ use Rattle.columns.proofs.column_pair.Pair.{pair_none}
 use Rattle.slot_reader.specs.declared.leaf_row.Leaf.{Leaf}
 use Rattle.slot_reader.specs.leaf_row.Reading.{leaf_row_of}
 use Rattle.row_reader.specs.Walk.{row_at}
-use Rattle.row_reader.specs.declared.row_pair.SameAnswer.{SameAnswer}
-use Rattle.row_reader.specs.declared.row_pair.SameAnswer.TheVariants as same
 use Rattle.row_reader.specs.row_pair.Same.{leaf_in, same_leaf, number_type, row_of, both_ground, rows_ground, same_row}
 use Rattle.row_reader.proofs.row_pair.Leaves.{same_self, same_is, same_told}
 use Rattle.row_reader.proofs.row_pair.Rows.{its_leaf, leaf_found}
@@ -81,25 +80,25 @@ module _ (formats schema : List ℕ) (x : Tables) (a n b m r s : ℕ) where
 
   -- ---- the answer
 
-  pub same_refused : (g : ℕ) → g ≡ rows_ground formats schema x a n b m r s → (g ≡ 0 → ⊥) → same.Refused g ≡ same_row formats schema x a n b m r s
+  pub same_refused : (g : ℕ) → g ≡ rows_ground formats schema x a n b m r s → (g ≡ 0 → ⊥) → Err g ≡ same_row formats schema x a n b m r s
   unfolding same_row
-  same_refused g e h = rw (ne_eqb (rows_ground formats schema x a n b m r s) 0 (λ z. h (e ∙ z))) (ap same.Refused e)
+  same_refused g e h = rw (ne_eqb (rows_ground formats schema x a n b m r s) 0 (λ z. h (e ∙ z))) (ap Err e)
 
   -- IT IS ANSWERED where no ground stands
-  pub answers : rows_ground formats schema x a n b m r s ≡ 0 → same.Told (same_leaf (row_of formats schema x a n r) (row_of formats schema x b m s)) ≡ same_row formats schema x a n b m r s
+  pub answers : rows_ground formats schema x a n b m r s ≡ 0 → Ok (same_leaf (row_of formats schema x a n r) (row_of formats schema x b m s)) ≡ same_row formats schema x a n b m r s
   unfolding same_row
   answers z = rw (eq-eqb (rows_ground formats schema x a n b m r s) 0 z)
 
   -- the leaves that are read, and what is told of them
   pub same_answer : a < 2 ^ 32 → b < 2 ^ 32 → ((j : ℕ) → get_or x.body j 0 < 256) → rows_ground formats schema x a n b m r s ≡ 0
       → (k l : Leaf) → k ≡ leaf_in (row_at (planted formats schema a n) (tables_from x a) r).read → l ≡ leaf_in (row_at (planted formats schema b m) (tables_from x b) s).read
-      → (t : Bool) → (t ≡ true → leaf_row_of k ≡ leaf_row_of l) → (leaf_row_of k ≡ leaf_row_of l → t ≡ true) → same.Told t ≡ same_row formats schema x a n b m r s
+      → (t : Bool) → (t ≡ true → leaf_row_of k ≡ leaf_row_of l) → (leaf_row_of k ≡ leaf_row_of l → t ≡ true) → Ok t ≡ same_row formats schema x a n b m r s
   same_answer la lb bytes z k l p q t f g =
       let e = fine z in
       let o = pair_none _ _ e.accepted in
       let u = ap leaf_row_of p ∙ leaf_found formats schema x a n la bytes o.0 e.numbers_a r e.row_a in
       let v = ap leaf_row_of q ∙ leaf_found formats schema x b m lb bytes o.1 e.numbers_b s e.row_b in
-      ap same.Told (same_told k l t f g ∙ ap₂ same_leaf u v) ∙ answers z
+      ap Ok (same_told k l t f g ∙ ap₂ same_leaf u v) ∙ answers z
 
   -- WHAT IS TOLD: both rows read the same where it is true, and only there
   pub record Tells (t : Bool) : Type 0 where
@@ -107,15 +106,15 @@ module _ (formats schema : List ℕ) (x : Tables) (a n b m r s : ℕ) where
     pub yes : t ≡ true → row_of formats schema x a n r ≡ row_of formats schema x b m s
     pub only : row_of formats schema x a n r ≡ row_of formats schema x b m s → t ≡ true
 
-  pub tells : (t : Bool) → same_row formats schema x a n b m r s ≡ same.Told t → Tells t
+  pub tells : (t : Bool) → same_row formats schema x a n b m r s ≡ Ok t → Tells t
   unfolding same_row
   tells t e = go (eqb (rows_ground formats schema x a n b m r s) 0) refl e
     where
-      told_by : {u v : Bool} → same.Told u ≡ same.Told v → u ≡ v
+      told_by : {u v : Bool} → ◌≡◌ {A = Result Bool ℕ} (Ok u) (Ok v) → u ≡ v
       told_by q = cc
 
       go : (c : Bool) → eqb (rows_ground formats schema x a n b m r s) 0 ≡ c
-          → cond c (same.Told (same_leaf (row_of formats schema x a n r) (row_of formats schema x b m s))) (same.Refused (rows_ground formats schema x a n b m r s)) ≡ same.Told t → Tells t
+          → cond {A = Result Bool ℕ} c (Ok (same_leaf (row_of formats schema x a n r) (row_of formats schema x b m s))) (Err (rows_ground formats schema x a n b m r s)) ≡ Ok t → Tells t
       go false p q = let y : ◌≡◌ {A = ℕ} 0 1 = cc in absurd (omega arith)
       go true p q =
           let f = fine (eqb-true _ 0 p) in

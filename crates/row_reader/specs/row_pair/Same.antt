@@ -1,6 +1,6 @@
 -- Whether two rows of lent columns of numbers read the same: 01, "A leaf row is null, a whole number, an f32 or an f64; floats are equal when
 -- their bits are", over rows as crate `columnar` reads them, so that runs, offsets and widths are no part of what is asked. Assumes nothing.
-use Rattle.std.specs.Prelude.{Bool, true, false, cond, ◌&&◌, List, ℕ, ltb, eqb}
+use Rattle.std.specs.Prelude.{Bool, true, false, cond, ◌&&◌, List, ℕ, ltb, eqb, Result, Ok, Err}
 use Rattle.columnar.specs.Row.{Row}
 use Rattle.columnar.specs.Types.{fixed, string, Ty, t_plain, t_view, t_list_view, t_list, t_sparse, t_dense, t_run_end, t_dictionary}
 use Rattle.columnar.specs.Reading.{read}
@@ -16,8 +16,6 @@ use Rattle.slot_reader.specs.declared.leaf_row.Leaf.{Leaf}
 use Rattle.slot_reader.specs.declared.leaf_row.Leaf.TheVariants as leaf
 use Rattle.slot_reader.specs.declared.RowRead.{RowRead}
 use Rattle.slot_reader.specs.declared.RowRead.TheVariants as row
-use Rattle.row_reader.specs.declared.row_pair.SameAnswer.{SameAnswer}
-use Rattle.row_reader.specs.declared.row_pair.SameAnswer.TheVariants as same
 
 -- the leaf of what was read; null where it is none
 abbrev pub leaf_in : RowRead → Leaf
@@ -87,5 +85,5 @@ module _ (formats schema : List ℕ) (x : Tables) where
         both_ground
 
     -- WHETHER BOTH ROWS READ THE SAME, or the ground
-    unfoldable pub same_row : SameAnswer
-    same_row = cond (eqb rows_ground 0) (same.Told (same_leaf (row_of a n r) (row_of b m s))) (same.Refused rows_ground)
+    unfoldable pub same_row : Result Bool ℕ
+    same_row = cond (eqb rows_ground 0) (Ok (same_leaf (row_of a n r) (row_of b m s))) (Err rows_ground)
