@@ -1,14 +1,13 @@
 -- Signed numbers by their patterns, at every width. Assumes nothing.
 use mathlib.Core.Path.{◌≡◌, refl, ap, ◌∙◌}
 use mathlib.Core.Bool.{true, false}
-use Prim.Native.Nat.{ℕ, zero, suc, ◌-◌, ◌^◌, ◌≤◌, ◌<◌}
-use native.Mathlib.Nat.{zero-add}
+use Prim.Native.Nat.{ℕ, suc, ◌-◌, ◌^◌, ◌<◌}
 use native.Mathlib.Omega.{arith}
 use lib.IntN.{ℤ, pos, negsuc, ◌-ℤ◌}
 use lib.Signed.{lt_z}
 use borrow.Author.Tests.{le-ltb, ltb-true}
 use mir.Syntax.{Width}
-use mir.Val.{Fits, SFits, hbits, bits, to_z, of_z}
+use mir.Val.{Fits, SFits, hbits, to_z, of_z}
 use mir.ValLaws.{to_z-of_z, to_z_pos, to_z-Fits, of_z-to_z}
 
 -- a number below 0, by its pattern
@@ -40,10 +39,6 @@ from w x f t = go x f (rw (to_z-of_z w x f) at t)
 flip_neg : (k : ℕ) → negsuc 0 -ℤ negsuc k ≡ pos k
 flip_neg k = let e : suc k - 1 ≡ k = omega arith in rw (le-ltb (suc k) 1 (omega arith)) (ap pos e)
 
-flip_pos : (m : ℕ) → negsuc 0 -ℤ pos m ≡ negsuc m
-flip_pos zero = refl
-flip_pos (suc m) = rw zero-add
-
 module _ {w : Width} {x : ℤ} (f : SFits w x) (b : Below w x) where
   pub flipped : negsuc 0 -ℤ to_z w (of_z w x) ≡ pos b.k
   flipped = rw (to_z-of_z w x f, b.is) (flip_neg b.k)
@@ -55,23 +50,11 @@ module _ {w : Width} {x : ℤ} (f : SFits w x) (b : Below w x) where
 pub from_read : {w : Width} {x : ℤ} (f : SFits w x) (b : From w x) → to_z w (of_z w x) ≡ pos b.k
 from_read {w} {x} f b = to_z-of_z w x f ∙ b.is
 
--- a pattern from half on
-module _ (w : Width) (p m : ℕ) (h : m < 2 ^ hbits w) (g : 2 ^ hbits w ≤ p) (e : m ≡ 2 ^ bits w - suc p) where
-  pub value : negsuc 0 -ℤ to_z w m ≡ negsuc m
-  value = rw (to_z_pos w m h) (flip_pos m)
-
-  pub value_is : to_z w (of_z w (negsuc 0 -ℤ to_z w m)) ≡ to_z w p
-  value_is = rw value (to_z-of_z w (negsuc m) (record { sfits = h }) ∙ rw (le-ltb p (2 ^ hbits w) g, e))
-
 -- the pattern of a number that was read from the pattern p
 pub read_back : (w : Width) (z : ℤ) (p : ℕ) → Fits w p → z ≡ to_z w p → of_z w (to_z w (of_z w z)) ≡ p
 read_back w z p f e =
     let s : SFits w z = rw e (to_z-Fits w p f) in
     rw (to_z-of_z w z s, e) (of_z-to_z w p f)
-
--- a number that was handed on has the pattern that it had
-pub again : (w : Width) (x : ℤ) → SFits w x → of_z w (to_z w (of_z w x)) ≡ of_z w x
-again w x f = ap (of_z w) (to_z-of_z w x f)
 
 -- a number read from the pattern p, which is q, and handed on
 pub read_value : (w : Width) (z : ℤ) (p q : ℕ) → Fits w p → z ≡ to_z w p → p ≡ q → to_z w (of_z w z) ≡ to_z w q

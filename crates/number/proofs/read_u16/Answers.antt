@@ -1,6 +1,0 @@
-use native.Mathlib.Omega.{arith}
-use Rattle.number.proofs.Laws.{halves}
-use Rattle.number.proofs.read_u16.Goals as goal
-
-pub returns : goal.returns
-returns c = omega (arith, halves 1 1 c.args.at c.args.s.now)

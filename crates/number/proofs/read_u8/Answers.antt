@@ -1,7 +1,0 @@
-use native.Mathlib.Omega.{arith}
-use mathlib.Core.Path.{sym}
-use Rattle.number.proofs.Laws.{one}
-use Rattle.number.proofs.read_u8.Goals as goal
-
-pub returns : goal.returns
-returns c = sym (one c.args.at c.args.s.now (omega arith))

@@ -1,6 +1,0 @@
-use Rattle.number.proofs.Laws.{put_halves}
-use Rattle.number.proofs.write_u64.Goals as goal
-
-pub returns : goal.returns
-returns c =
-    cc (put_halves 4 4 c.args.at c.args.x c.args.s.now c.requires)

@@ -1,6 +1,0 @@
-use native.Mathlib.Omega.{arith}
-use Rattle.number.proofs.Laws.{put_one}
-use Rattle.number.proofs.write_u8.Goals as goal
-
-pub returns : goal.returns
-returns c = put_one _ _ _ (omega arith) (omega arith)
