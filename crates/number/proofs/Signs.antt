@@ -8,7 +8,7 @@ use lib.Signed.{lt_z}
 use borrow.Author.Tests.{le-ltb, ltb-true}
 use mir.Syntax.{Width}
 use mir.Val.{Fits, SFits, hbits, to_z, of_z}
-use mir.ValLaws.{to_z-of_z, to_z_pos, to_z-Fits, of_z-to_z}
+use mir.ValLaws.{to_z-of_z, to_z_pos, to_z-Fits}
 
 -- a number below 0, by its pattern
 pub record Below (w : Width) (x : ℤ) : Type 0 where
@@ -49,12 +49,6 @@ module _ {w : Width} {x : ℤ} (f : SFits w x) (b : Below w x) where
 
 pub from_read : {w : Width} {x : ℤ} (f : SFits w x) (b : From w x) → to_z w (of_z w x) ≡ pos b.k
 from_read {w} {x} f b = to_z-of_z w x f ∙ b.is
-
--- the pattern of a number that was read from the pattern p
-pub read_back : (w : Width) (z : ℤ) (p : ℕ) → Fits w p → z ≡ to_z w p → of_z w (to_z w (of_z w z)) ≡ p
-read_back w z p f e =
-    let s : SFits w z = rw e (to_z-Fits w p f) in
-    rw (to_z-of_z w z s, e) (of_z-to_z w p f)
 
 -- a number read from the pattern p, which is q, and handed on
 pub read_value : (w : Width) (z : ℤ) (p q : ℕ) → Fits w p → z ≡ to_z w p → p ≡ q → to_z w (of_z w z) ≡ to_z w q
