@@ -27,10 +27,8 @@ fn write_lengths(lengths: &[u64], first: u32, n: u32, table: &mut [u64])
 {
     let more = 2 * (n as usize - 1);
     let from = 2 * (first as usize + 1);
-    let mut k = 0;
-    while k < more {
+    for k in 0..more {
         table[2 + k] = lent_tables::at_u64(lengths, from + k);
-        k += 1;
     }
 }
 
@@ -41,10 +39,8 @@ fn write_nulls(lengths: &[u64], places: &[u64], body: &[u8], first: u32, n: u32,
 {
     let more = n as usize - 1;
     let from = first as usize + 1;
-    let mut k = 0;
-    while k < more {
+    for k in 0..more {
         table[1 + k] = dictionaries::null_count(lengths, places, body, from + k);
-        k += 1;
     }
 }
 
@@ -77,10 +73,8 @@ fn write_places(places: &[u64], nulls: &[u64], first: u32, n: u32, table: &mut [
     ensures { table.new ≡ take 9 table.old ++ seg (below_place (was places) (was nulls) first) 0 (9 * (n - 1)) }
 {
     let more = 9 * (n as usize - 1);
-    let mut k = 0;
-    while k < more {
+    for k in 0..more {
         table[9 + k] = place_word(places, nulls, first, k);
-        k += 1;
     }
 }
 

@@ -128,15 +128,13 @@ fn list_rows(
     if !nested_rows::pairs_in(places, body, first as usize, 0, w, w, slot, n) {
         return 12;
     }
-    let mut r: u64 = 0;
-    while r < n {
+    for r in 0..n {
         let g = list_row(
             plan, parts, lengths, places, body, counters, room, write, first, w, slot, r,
         );
         if g != 0 {
             return g;
         }
-        r += 1;
     }
     0
 }

@@ -10,6 +10,7 @@ ghost use Rattle.convert.specs.convert_lists.Laid.{laid_rows};
 
 use array_data::lent_tables;
 use nested_rows::lookups;
+use number::Unsigned;
 use walk::plan_words;
 
 // The offset and the size of row r.
@@ -36,10 +37,12 @@ fn view_row(
     let next = lookups::entry_at(body, at, w, slot + r + 1);
     let o = r * w;
     room_writes::put_number(plan, parts, room, write, 0, 1, o, w, start);
-    room_writes::put_number(plan, parts, room, write, 0, 2, o, w, less(next, start));
+    let size = next.saturating_sub(start);
+    room_writes::put_number(plan, parts, room, write, 0, 2, o, w, size);
 }
 
-// a - b, and 0 where b is above a.
+// a - b, and 0 where b is above a. By a test, which the compiler narrows to rows of 4 bytes; `saturating_sub` stays at 64 bits, and takes twice as
+// long there.
 fn less(a: u64, b: u64) -> u64
     ensures { result ≡ a - b }
 {
@@ -49,43 +52,17 @@ fn less(a: u64, b: u64) -> u64
     a - b
 }
 
-// a - b, and 0 where b is above a.
-fn less_u32(a: u32, b: u32) -> u32
-    ensures { result ≡ a - b }
+// Of n rows whose offsets stand at `from`: each row's offset at `at` and its size at `too`.
+fn lay<N: Unsigned>(room: &mut [u8], at: usize, too: usize, body: &[u8], from: usize, n: usize)
+    requires { (at + N.SIZE * n ≤ length room.old) × (too + N.SIZE * n ≤ length room.old) × (from + N.SIZE * (n + 1) ≤ length body.now) }
+    ensures { room.new ≡ laid_rows N.SIZE (was body) from at too n 0 room.old }
 {
-    if a < b {
-        return 0;
-    }
-    a - b
-}
-
-// Of n rows whose offsets of 4 bytes stand at `from`: each row's offset at `at` and its size at `too`.
-fn lay_4(room: &mut [u8], at: usize, too: usize, body: &[u8], from: usize, n: usize)
-    requires { (at + 4 * n ≤ length room.old) × (too + 4 * n ≤ length room.old) × (from + 4 * (n + 1) ≤ length body.now) }
-    ensures { room.new ≡ laid_rows 4 (was body) from at too n 0 room.old }
-{
-    let mut i = 0;
-    while i < n {
-        let start = number::read_u32(body, from + 4 * i);
-        let next = number::read_u32(body, from + 4 * (i + 1));
-        number::write_u32(room, at + 4 * i, start);
-        number::write_u32(room, too + 4 * i, less_u32(next, start));
-        i += 1;
-    }
-}
-
-// Of n rows whose offsets of 8 bytes stand at `from`: each row's offset at `at` and its size at `too`.
-fn lay_8(room: &mut [u8], at: usize, too: usize, body: &[u8], from: usize, n: usize)
-    requires { (at + 8 * n ≤ length room.old) × (too + 8 * n ≤ length room.old) × (from + 8 * (n + 1) ≤ length body.now) }
-    ensures { room.new ≡ laid_rows 8 (was body) from at too n 0 room.old }
-{
-    let mut i = 0;
-    while i < n {
-        let start = number::read_u64(body, from + 8 * i);
-        let next = number::read_u64(body, from + 8 * (i + 1));
-        number::write_u64(room, at + 8 * i, start);
-        number::write_u64(room, too + 8 * i, less(next, start));
-        i += 1;
+    for i in 0..n {
+        let start = N::read(body, from + N::SIZE * i);
+        let next = N::read(body, from + N::SIZE * (i + 1));
+        let size = less(next.to_u64(), start.to_u64());
+        start.write(room, at + N::SIZE * i);
+        N::truncate(size).write(room, too + N::SIZE * i);
     }
 }
 
@@ -96,8 +73,8 @@ fn lay_rows(room: &mut [u8], at: usize, too: usize, body: &[u8], from: usize, w:
     ensures { room.new ≡ laid_rows w (was body) from at too n 0 room.old }
 {
     match w {
-        4 => lay_4(room, at, too, body, from, n),
-        _ => lay_8(room, at, too, body, from, n),
+        4 => lay::<u32>(room, at, too, body, from, n),
+        _ => lay::<u64>(room, at, too, body, from, n),
     }
 }
 
@@ -119,12 +96,10 @@ fn put_row_by_row(
     requires fact { let j = join [] [] lengths.now places.now body.now first 0 in (slot ≡ offset_of j 0) × (slot + n < 2 ^ 63) × (place j 0 3 + w * (slot + (n + 1)) ≤ length body.now) }
     ensures { Did (was plan) (was parts) true (each (view_row (lent_join plan parts lengths places body first 0) w) n 0 (was counters)) room.old 0 (was counters) room.new }
 {
-    let mut r: u64 = 0;
-    while r < n {
+    for r in 0..n {
         view_row(
             plan, parts, lengths, places, body, counters, room, true, first, w, slot, r,
         );
-        r += 1;
     }
 }
 

@@ -13,7 +13,7 @@ use Rattle.columnar.specs.Array.{Array, ok, nulls_in, null_count_of}
 use Rattle.columnar.specs.RunEnd.{RunEnd, RunEndRule}
 use Rattle.columnar.specs.Kids.{node_down}
 use Rattle.columnar.proofs.Kids.{below_from}
-use Rattle.columnar.specs.Test.{run_end_test, every}
+use Rattle.columnar.specs.Test.{run_end_test}
 use Rattle.columnar.proofs.Test.{Agrees, every_out, array_agrees, run_end_agrees}
 use Rattle.model.proofs.Bits.{get_d_seg}
 use Rattle.array_data.specs.Tables.{Tables, length_of, offset_of, first_buffer, array_with, held, valid_in}

@@ -23,7 +23,6 @@ use Rattle.refinement.proofs.log_in_room.Found.{between_both, between_wide}
 use Rattle.plan.specs.parts.Parts.{has_offsets}
 use Rattle.refinement.proofs.orders.Buffers.{fixed_else}
 use Rattle.refinement.proofs.orders.Cover.{Laid}
-use Rattle.refinement.specs.opening.Open.{chosen}
 use Rattle.refinement.proofs.opening.Zeros.{gap_of}
 use Rattle.refinement.proofs.opening.Zeros as zeros
 use Rattle.refinement.proofs.opening.Starts.{Here, There, closed_here, is_union_lem, child_here}

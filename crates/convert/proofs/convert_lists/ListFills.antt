@@ -13,7 +13,7 @@ use Rattle.columnar.specs.Row.{seg}
 use Rattle.columnar.specs.Types.{Ty, t_list_view, t_list}
 use Rattle.columnar.specs.Array.{ok, null_count_of}
 use Rattle.columnar.specs.Reading.{Column, Source}
-use Rattle.model.specs.Try.{Try, done, stop, then}
+use Rattle.model.specs.Try.{Try, done, then}
 use Rattle.model.specs.Lists.{Listings, lists_freeze}
 use Rattle.model.specs.Transform.{Grown, into_builder}
 use Rattle.model.proofs.Bits.{length_seg, zeros_seg}

@@ -12,7 +12,7 @@ use Rattle.columnar.specs.Array.{nulls_in, ok}
 use Rattle.columnar.specs.Test.{every}
 use Rattle.refinement.proofs.orders.Enough.{every_all}
 use Rattle.schema.specs.formats.Code.{is_view, is_list_view}
-use Rattle.array_data.specs.Tables.{Tables, place, held, in_body, valid_in, first_buffer, second_buffer}
+use Rattle.array_data.specs.Tables.{Tables, place, in_body, valid_in, first_buffer, second_buffer}
 use Rattle.walk.specs.Log.{start_of}
 use Rattle.columns.specs.Grounds.{ceiling}
 use Rattle.model.specs.Mutable.{Mutable, zeros, validity}

@@ -6,17 +6,11 @@ use Rattle.source_rules.specs.kinds.Rows.{tables_of}
 use Rattle.convert.proofs.child_names.Laws.{lengths_below, nulls_below, places_below, at_least_one, countable, fitting, names_refused, names_short, names_made}
 use Rattle.convert.proofs.child_names.name_child.Goals as goal
 
-pub column_ground-g-requires : goal.column_ground-g-requires
-column_ground-g-requires c = tt
-
 pub returns-then-g-ne0 : goal.returns-then-g-ne0
 returns-then-g-ne0 c =
     let z = c.args in
     let x = tables_of z.lengths.now z.places.now z.buffers.now z.body.now in
     names_refused z.formats.now z.schema.now x z.first z.n z.new_lengths.now z.new_nulls.now z.new_places.now c.column_ground-g.ensures c.if-g-ne0.true
-
-pub tables_fit-requires : goal.tables_fit-requires
-tables_fit-requires c = tt
 
 pub returns-then-not-tables_fit : goal.returns-then-not-tables_fit
 returns-then-not-tables_fit c =

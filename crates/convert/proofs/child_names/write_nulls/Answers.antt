@@ -9,17 +9,8 @@ use Rattle.into_builder.proofs.buffers.Written.{behind_none}
 use Rattle.convert.proofs.child_names.Laws.{one_more, all_of}
 use Rattle.convert.proofs.child_names.write_nulls.Goals as goal
 
-pub overflow_sub-more : goal.overflow_sub-more
-overflow_sub-more c = omega arith
-
-pub overflow_add-from : goal.overflow_add-from
-overflow_add-from c = omega arith
-
 pub loop-k-init : goal.loop-k-init
-loop-k-init c = (omega arith, behind_none c.args.table.now 1)
-
-pub overflow_add-from-in-loop-k : goal.overflow_add-from-in-loop-k
-overflow_add-from-in-loop-k c = omega arith
+loop-k-init c = behind_none c.args.table.now 1
 
 pub null_count-requires : goal.null_count-requires
 null_count-requires c =
@@ -27,32 +18,17 @@ null_count-requires c =
     let l = c.loop-k in
     subst (λ j. Countable (tables z.lengths.now z.places.now z.body.now) j) (omega arith) (c.requires.2 (suc l.k) (omega arith))
 
-pub overflow_add-table : goal.overflow_add-table
-overflow_add-table c = omega arith
-
-pub offset_bounds-table-k : goal.offset_bounds-table-k
-offset_bounds-table-k c = omega arith
-
 pub bounds-table-k : goal.bounds-table-k
-bounds-table-k c = omega (arith, c.loop-k.invariant.1.same, c.requires.1)
-
-pub overflow_add-k : goal.overflow_add-k
-overflow_add-k c = omega arith
-
-pub loop-k-smaller : goal.loop-k-smaller
-loop-k-smaller c = omega arith
+bounds-table-k c = omega (arith, c.loop-k.invariant.same, c.requires.1)
 
 pub loop-k-preserved : goal.loop-k-preserved
 loop-k-preserved c =
     let z = c.args in
     let l = c.loop-k in
-    (omega arith, one_more (λ k. null_count_of (array_of (tables z.lengths.now z.places.now z.body.now) (z.first + 1 + k))) z.table.now l.table 1 l.k _ (omega (arith, c.requires.1)) l.invariant.1 c.null_count.ensures)
-
-pub shape_of-table : goal.shape_of-table
-shape_of-table c = c.loop-k.invariant.1.same
+    one_more (λ k. null_count_of (array_of (tables z.lengths.now z.places.now z.body.now) (z.first + 1 + k))) z.table.now l.table 1 l.k _ (omega (arith, c.requires.1)) l.invariant c.null_count.ensures
 
 pub returns : goal.returns
 returns c =
     let z = c.args in
     let l = c.loop-k in
-    all_of (λ k. null_count_of (array_of (tables z.lengths.now z.places.now z.body.now) (z.first + 1 + k))) z.table.now l.table 1 l.k (z.n - 1) (omega arith) (omega (arith, c.requires.0, c.requires.1)) l.invariant.1
+    all_of (λ k. null_count_of (array_of (tables z.lengths.now z.places.now z.body.now) (z.first + 1 + k))) z.table.now l.table 1 l.k (z.n - 1) (omega arith) (omega (arith, c.requires.0, c.requires.1)) l.invariant

@@ -6,44 +6,20 @@ use Rattle.convert.specs.child_names.Names.{below_place}
 use Rattle.convert.proofs.child_names.Laws.{one_more, all_of}
 use Rattle.convert.proofs.child_names.write_places.Goals as goal
 
-pub overflow_sub-more : goal.overflow_sub-more
-overflow_sub-more c = omega arith
-
-pub overflow_mul-more : goal.overflow_mul-more
-overflow_mul-more c = omega arith
-
 pub loop-k-init : goal.loop-k-init
-loop-k-init c = (omega arith, behind_none c.args.table.now 9)
-
-pub place_word-requires : goal.place_word-requires
-place_word-requires c = omega arith
-
-pub overflow_add-table : goal.overflow_add-table
-overflow_add-table c = omega arith
-
-pub offset_bounds-table-k : goal.offset_bounds-table-k
-offset_bounds-table-k c = omega arith
+loop-k-init c = behind_none c.args.table.now 9
 
 pub bounds-table-k : goal.bounds-table-k
-bounds-table-k c = omega (arith, c.loop-k.invariant.1.same, c.requires.1)
-
-pub overflow_add-k : goal.overflow_add-k
-overflow_add-k c = omega arith
-
-pub loop-k-smaller : goal.loop-k-smaller
-loop-k-smaller c = omega arith
+bounds-table-k c = omega (arith, c.loop-k.invariant.same, c.requires.1)
 
 pub loop-k-preserved : goal.loop-k-preserved
 loop-k-preserved c =
     let z = c.args in
     let l = c.loop-k in
-    (omega arith, one_more (below_place z.places.now z.nulls.now z.first) z.table.now l.table 9 l.k _ (omega (arith, c.requires.1)) l.invariant.1 c.place_word.ensures)
-
-pub shape_of-table : goal.shape_of-table
-shape_of-table c = c.loop-k.invariant.1.same
+    one_more (below_place z.places.now z.nulls.now z.first) z.table.now l.table 9 l.k _ (omega (arith, c.requires.1)) l.invariant c.place_word.ensures
 
 pub returns : goal.returns
 returns c =
     let z = c.args in
     let l = c.loop-k in
-    all_of (below_place z.places.now z.nulls.now z.first) z.table.now l.table 9 l.k (9 * (z.n - 1)) (omega arith) (omega (arith, c.requires.0, c.requires.1)) l.invariant.1
+    all_of (below_place z.places.now z.nulls.now z.first) z.table.now l.table 9 l.k (9 * (z.n - 1)) (omega arith) (omega (arith, c.requires.0, c.requires.1)) l.invariant

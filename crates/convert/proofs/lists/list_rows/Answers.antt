@@ -17,7 +17,7 @@ pub returns-then-not-pairs_in : goal.returns-then-not-pairs_in
 returns-then-not-pairs_in c = let z = c.args in rows_short (join z.plan.now z.parts.now z.lengths.now z.places.now z.body.now z.first 0) z.write z.w z.n z.counters.now z.room.now z.slot c.requires.slot_value.0 (c.pairs_in.ensures z.plan.now z.parts.now z.lengths.now 0) c.if-not-pairs_in.true-raw
 
 pub loop-r-init : goal.loop-r-init
-loop-r-init c = (search rules, search rules, λ g c2 room2. simp sub-zero (λ d. d))
+loop-r-init c = λ g c2 room2. simp sub-zero (λ d. d)
 
 pub list_row-g-requires : goal.list_row-g-requires
 list_row-g-requires c =
@@ -32,16 +32,16 @@ pub returns-then-g-ne0 : goal.returns-then-g-ne0
 returns-then-g-ne0 c =
     let z = c.args in
     let l = c.loop-r in
-    rows_all (join z.plan.now z.parts.now z.lengths.now z.places.now z.body.now z.first 0) z.write z.w z.n z.counters.now z.room.now z.slot c.requires.slot_value.0 (c.pairs_in.ensures z.plan.now z.parts.now z.lengths.now 0) c.if-not-pairs_in.false-raw (l.invariant.2 _ _ _ (each_stop _ _ (z.n - l.r) (z.n - (l.r + 1)) _ _ _ (omega arith) c.list_row-g.ensures c.if-g-ne0.true))
+    rows_all (join z.plan.now z.parts.now z.lengths.now z.places.now z.body.now z.first 0) z.write z.w z.n z.counters.now z.room.now z.slot c.requires.slot_value.0 (c.pairs_in.ensures z.plan.now z.parts.now z.lengths.now 0) c.if-not-pairs_in.false-raw (l.invariant _ _ _ (each_stop _ _ (z.n - l.r) (z.n - (l.r + 1)) _ _ _ (omega arith) c.list_row-g.ensures c.if-g-ne0.true))
 
 pub loop-r-preserved : goal.loop-r-preserved
 loop-r-preserved c =
     let z = c.args in
     let l = c.loop-r in
-    (search rules, search rules, λ g c2 room2 d. l.invariant.2 _ _ _ (each_more _ _ (z.n - l.r) (z.n - (l.r + 1)) l.r (l.r + 1) _ _ (omega arith) refl c.list_row-g.ensures c.if-g-ne0.false d))
+    λ g c2 room2 d. l.invariant _ _ _ (each_more _ _ (z.n - l.r) (z.n - (l.r + 1)) l.r (l.r + 1) _ _ (omega arith) refl c.list_row-g.ensures c.if-g-ne0.false d)
 
 pub returns : goal.returns
 returns c =
     let z = c.args in
     let l = c.loop-r in
-    rows_all (join z.plan.now z.parts.now z.lengths.now z.places.now z.body.now z.first 0) z.write z.w z.n z.counters.now z.room.now z.slot c.requires.slot_value.0 (c.pairs_in.ensures z.plan.now z.parts.now z.lengths.now 0) c.if-not-pairs_in.false-raw (l.invariant.2 _ _ _ (each_none _ _ (z.n - l.r) _ _ _ (omega arith)))
+    rows_all (join z.plan.now z.parts.now z.lengths.now z.places.now z.body.now z.first 0) z.write z.w z.n z.counters.now z.room.now z.slot c.requires.slot_value.0 (c.pairs_in.ensures z.plan.now z.parts.now z.lengths.now 0) c.if-not-pairs_in.false-raw (l.invariant _ _ _ (each_none _ _ (z.n - l.r) _ _ _ (omega arith)))

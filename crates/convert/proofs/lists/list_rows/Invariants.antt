@@ -1,6 +1,4 @@
-use mathlib.Core.Path.{◌≡◌}
-use Prim.Native.Nat.{◌-◌, ◌≤◌}
-use lib.ListN.{length}
+use Prim.Native.Nat.{◌-◌}
 use Rattle.walk.specs.Log.{each}
 use Rattle.walk.proofs.Laws.{Rest}
 use Rattle.leaf_walk.specs.Join.{join}
@@ -8,7 +6,4 @@ use Rattle.convert.specs.convert_lists.Listing.{list_row}
 use Rattle.convert.proofs.lists.list_rows.Given as goal
 
 abbrev pub invariant-loop-r : goal.invariant-loop-r
-invariant-loop-r l = (l.r ≤ l.n) × (length l.room ≡ length l.initial.room) × Rest l.plan l.parts l.write (each (list_row (join l.plan l.parts l.lengths l.places l.body l.first 0) l.w) l.n 0 l.initial.counters) l.initial.room (each (list_row (join l.plan l.parts l.lengths l.places l.body l.first 0) l.w) (l.n - l.r) l.r l.counters) l.room
-
-abbrev pub decreases-loop-r : goal.decreases-loop-r
-decreases-loop-r l = l.n - l.r
+invariant-loop-r l = Rest l.plan l.parts l.write (each (list_row (join l.plan l.parts l.lengths l.places l.body l.first 0) l.w) l.n 0 l.initial.counters) l.initial.room (each (list_row (join l.plan l.parts l.lengths l.places l.body l.first 0) l.w) (l.n - l.r) l.r l.counters) l.room

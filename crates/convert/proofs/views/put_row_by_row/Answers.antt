@@ -6,13 +6,11 @@ use native.Mathlib.Nat.{sub-zero}
 use native.Mathlib.Omega.{arith}
 use Rattle.walk.proofs.Laws.{each_none, each_more}
 use Rattle.leaf_walk.specs.Join.{join}
-use Rattle.convert.specs.convert_lists.Viewing.{view_row}
 use Rattle.convert.proofs.Viewed.{row_in, row_size}
-use borrow.Author.Rules.{rules}
 use Rattle.convert.proofs.views.put_row_by_row.Goals as goal
 
 pub loop-r-init : goal.loop-r-init
-loop-r-init c = (search rules, search rules, λ g c2 room2. simp sub-zero (λ d. d))
+loop-r-init c = λ g c2 room2. simp sub-zero (λ d. d)
 
 pub view_row-requires : goal.view_row-requires
 view_row-requires c =
@@ -27,10 +25,10 @@ pub loop-r-preserved : goal.loop-r-preserved
 loop-r-preserved c =
     let z = c.args in
     let l = c.loop-r in
-    (search rules, search rules, λ g c2 room2 d. l.invariant.2 _ _ _ (each_more _ _ (z.n - l.r) (z.n - (l.r + 1)) l.r (l.r + 1) _ _ (omega arith) refl c.view_row.ensures refl d))
+    λ g c2 room2 d. l.invariant _ _ _ (each_more _ _ (z.n - l.r) (z.n - (l.r + 1)) l.r (l.r + 1) _ _ (omega arith) refl c.view_row.ensures refl d)
 
 pub returns : goal.returns
 returns c =
     let z = c.args in
     let l = c.loop-r in
-    l.invariant.2 _ _ _ (each_none _ _ (z.n - l.r) _ _ _ (omega arith))
+    l.invariant _ _ _ (each_none _ _ (z.n - l.r) _ _ _ (omega arith))

@@ -15,4 +15,4 @@ pub overflow_mul-o : goal.overflow_mul-o
 overflow_mul-o c = let z = c.args in let q = row_small z.w z.r c.requires.fact.2 in search (rules, q)
 
 pub returns : goal.returns
-returns c = let z = c.args in view_did (join z.plan.now z.parts.now z.lengths.now z.places.now z.body.now z.first 0) z.write z.w z.r z.counters.now z.room.now z.slot c.requires.fact.0 c.place-at.ensures c.entry_at-start.ensures c.entry_at-next.ensures refl c.put_number.ensures c.less.ensures c.put_number-2.ensures
+returns c = let z = c.args in view_did (join z.plan.now z.parts.now z.lengths.now z.places.now z.body.now z.first 0) z.write z.w z.r z.counters.now z.room.now z.slot c.requires.fact.0 c.place-at.ensures c.entry_at-start.ensures c.entry_at-next.ensures refl c.put_number.ensures c.saturating_sub-size.ensures c.put_number-2.ensures
