@@ -1,7 +1,8 @@
 // Vectors of run ends: rows of the table (K1, K2, K4), and the run of each row with the rows left in it, at each width.
 ghost use Rattle.std.specs.Prelude.{◌≡◌, ◌+◌, ◌-◌, ◌*◌, ◌/◌, ◌^◌, ◌<◌, ◌≤◌, true, length};
 
-use run_ends::{Found, LogicalRow, PhysicalRun, Runs, copies};
+use number::Unsigned;
+use run_ends::{LogicalRow, PhysicalRun, RunRow, copies};
 use std::io;
 
 // A number and a blank.
@@ -10,18 +11,14 @@ fn put(rt: &impl Print, x: u64) -> io::Result<()> {
 }
 
 // A run and the rows left in it, or that the row is past.
-fn put_found(rt: &impl Print, found: Found) -> io::Result<()> {
+fn put_found(rt: &impl Print, found: Option<RunRow>) -> io::Result<()> {
     match found {
-        Found::Run { run, left } => {
-            let k = run.0;
-            put(rt, k as u64)?;
-            put(rt, left)?;
+        Some(RunRow { run, left }) => {
+            put(rt, run.0 as u64)?;
+            put(rt, left)
         }
-        Found::Past => {
-            rt.write_all(b"past ")?;
-        }
+        None => rt.write_all(b"past "),
     }
-    Ok(())
 }
 
 fn line(rt: &impl Print) -> io::Result<()> {
@@ -32,27 +29,21 @@ fn line(rt: &impl Print) -> io::Result<()> {
 fn fits(last: u64, n: u64, most: u64) -> bool
     ensures { result ≡ true → last + n ≤ most }
 {
-    if most < last {
-        return false;
-    }
-    if most - last < n {
-        return false;
-    }
-    true
+    last <= most && n <= most - last
 }
 
 // The first m run ends.
-fn put_ends_i16(rt: &impl Print, ends: &[u8], m: usize) -> io::Result<()>
-    requires { 2 * m ≤ length ends.now }
+fn put_ends<N: Unsigned>(rt: &impl Print, ends: &[u8], m: usize) -> io::Result<()>
+    requires { N.SIZE * m ≤ length ends.now }
 {
     for k in 0..m {
-        put(rt, run_ends::run_end_i16(ends, 0, PhysicalRun(k)).0)?;
+        put(rt, run_ends::run_end::<N>(ends, 0, PhysicalRun(k)).0)?;
     }
     Ok(())
 }
 
 // Writes the run ends of m runs from `first` on, and prints them.
-fn clip_i16(
+fn clip<N: Unsigned>(
     rt: &impl Print,
     ends: &[u8],
     first: PhysicalRun,
@@ -61,280 +52,88 @@ fn clip_i16(
     end: LogicalRow,
     last: u64,
 ) -> io::Result<()>
-    requires m_in_bounds { 2 * first.0 + 2 * m ≤ length ends.now }
-    requires start_bound { last + (end.0 - start.0) < 256 ^ 2 / 2 }
+    requires m_in_bounds { N.SIZE * first.0 + N.SIZE * m ≤ length ends.now }
+    requires start_bound { last + (end.0 - start.0) < 256 ^ N.SIZE / 2 }
 {
     let mut room = [0u8; 64];
-    let a = first.0;
     if m <= 8 {
-        copies::extend_run_ends_i16(&mut room, 0, ends, 2 * a, m, start, end, last);
-        put_ends_i16(rt, &room, m)?;
+        copies::extend_run_ends::<N>(&mut room, 0, ends, N::SIZE * first.0, m, start, end, last);
+        put_ends::<N>(rt, &room, m)?;
     }
     Ok(())
 }
 
-// A copy of the rows start .. end - 1 behind the run end `last`: its runs, and its run ends or that they do not fit.
-fn copy_i16(
+// A copy of the rows start .. end - 1 behind the run end `last`: its runs, and its run ends or that they do not fit: `most` is the largest.
+fn copy<N: Unsigned>(
     rt: &impl Print,
     ends: &[u8],
     n: usize,
     start: LogicalRow,
     end: LogicalRow,
     last: u64,
+    most: u64,
 ) -> io::Result<()>
-    requires { 2 * n ≤ length ends.now }
+    requires n { N.SIZE * n ≤ length ends.now }
+    requires most { most < 256 ^ N.SIZE / 2 }
 {
-    match run_ends::runs_of_range_i16(ends, 0, n, start, end) {
-        Runs::Range { first, count } => {
-            put(rt, first.0 as u64)?;
-            put(rt, count as u64)?;
-            if fits(last, end.0 - start.0, 32767) {
-                clip_i16(rt, ends, first, count, start, end, last)?;
+    match run_ends::runs_of_range::<N>(ends, 0, n, start, end) {
+        Some(runs) => {
+            put(rt, runs.first.0 as u64)?;
+            put(rt, runs.count as u64)?;
+            if fits(last, end.0 - start.0, most) {
+                clip::<N>(rt, ends, runs.first, runs.count, start, end, last)?;
             } else {
                 rt.write_all(b"over ")?;
             }
         }
-        Runs::None => {
-            rt.write_all(b"none ")?;
-        }
+        None => rt.write_all(b"none ")?,
     }
     line(rt)
 }
 
 // Copies from the run ends 2, 5, 9: K1, K2, one and two rows behind the last run end but one, and rows past the last run.
-fn copies_i16(rt: &impl Print, ends: &[u8]) -> io::Result<()>
-    requires { 2 * 3 ≤ length ends.now }
+fn copies<N: Unsigned>(rt: &impl Print, ends: &[u8], most: u64) -> io::Result<()>
+    requires three { N.SIZE * 3 ≤ length ends.now }
+    requires most { (1 ≤ most) × (most < 256 ^ N.SIZE / 2) }
 {
-    copy_i16(rt, ends, 3, LogicalRow(2), LogicalRow(6), 0)?;
-    copy_i16(rt, ends, 3, LogicalRow(2), LogicalRow(6), 4)?;
-    copy_i16(rt, ends, 3, LogicalRow(0), LogicalRow(1), 32766)?;
-    copy_i16(rt, ends, 3, LogicalRow(0), LogicalRow(2), 32766)?;
-    copy_i16(rt, ends, 3, LogicalRow(8), LogicalRow(10), 0)
+    copy::<N>(rt, ends, 3, LogicalRow(2), LogicalRow(6), 0, most)?;
+    copy::<N>(rt, ends, 3, LogicalRow(2), LogicalRow(6), 4, most)?;
+    copy::<N>(rt, ends, 3, LogicalRow(0), LogicalRow(1), most - 1, most)?;
+    copy::<N>(rt, ends, 3, LogicalRow(0), LogicalRow(2), most - 1, most)?;
+    copy::<N>(rt, ends, 3, LogicalRow(8), LogicalRow(10), 0, most)
 }
 
 // The runs of the rows 0 to 9 among the first n, and the rows left in them before `last`.
-fn finds_i16(rt: &impl Print, ends: &[u8], n: usize, last: u64) -> io::Result<()>
-    requires { 2 * n ≤ length ends.now }
+fn finds<N: Unsigned>(rt: &impl Print, ends: &[u8], n: usize, last: u64) -> io::Result<()>
+    requires { N.SIZE * n ≤ length ends.now }
 {
     for row in 0u64..10 {
         put_found(
             rt,
-            run_ends::find_run_i16(ends, 0, n, LogicalRow(row), LogicalRow(last)),
+            run_ends::find_run::<N>(ends, 0, n, LogicalRow(row), LogicalRow(last)),
         )?;
     }
     line(rt)
 }
 
-fn all_i16(rt: &impl Print) -> io::Result<()> {
-    let ends: [u8; 6] = [2, 0, 5, 0, 9, 0];
-    copies_i16(rt, &ends)?;
-    finds_i16(rt, &ends, 3, 9)?;
-    finds_i16(rt, &ends, 3, 7)?;
-    finds_i16(rt, &ends, 0, 9)
-}
-
-// The first m run ends.
-fn put_ends_i32(rt: &impl Print, ends: &[u8], m: usize) -> io::Result<()>
-    requires { 4 * m ≤ length ends.now }
+// The vectors of one width, from the run ends 2, 5, 9; `most` is the largest.
+fn all_of<N: Unsigned>(rt: &impl Print, ends: &[u8], most: u64) -> io::Result<()>
+    requires three { N.SIZE * 3 ≤ length ends.now }
+    requires most { (1 ≤ most) × (most < 256 ^ N.SIZE / 2) }
 {
-    for k in 0..m {
-        put(rt, run_ends::run_end_i32(ends, 0, PhysicalRun(k)).0)?;
-    }
-    Ok(())
-}
-
-// Writes the run ends of m runs from `first` on, and prints them.
-fn clip_i32(
-    rt: &impl Print,
-    ends: &[u8],
-    first: PhysicalRun,
-    m: usize,
-    start: LogicalRow,
-    end: LogicalRow,
-    last: u64,
-) -> io::Result<()>
-    requires m_in_bounds { 4 * first.0 + 4 * m ≤ length ends.now }
-    requires start_bound { last + (end.0 - start.0) < 256 ^ 4 / 2 }
-{
-    let mut room = [0u8; 64];
-    let a = first.0;
-    if m <= 8 {
-        copies::extend_run_ends_i32(&mut room, 0, ends, 4 * a, m, start, end, last);
-        put_ends_i32(rt, &room, m)?;
-    }
-    Ok(())
-}
-
-// A copy of the rows start .. end - 1 behind the run end `last`: its runs, and its run ends or that they do not fit.
-fn copy_i32(
-    rt: &impl Print,
-    ends: &[u8],
-    n: usize,
-    start: LogicalRow,
-    end: LogicalRow,
-    last: u64,
-) -> io::Result<()>
-    requires { 4 * n ≤ length ends.now }
-{
-    match run_ends::runs_of_range_i32(ends, 0, n, start, end) {
-        Runs::Range { first, count } => {
-            put(rt, first.0 as u64)?;
-            put(rt, count as u64)?;
-            if fits(last, end.0 - start.0, 2147483647) {
-                clip_i32(rt, ends, first, count, start, end, last)?;
-            } else {
-                rt.write_all(b"over ")?;
-            }
-        }
-        Runs::None => {
-            rt.write_all(b"none ")?;
-        }
-    }
-    line(rt)
-}
-
-// Copies from the run ends 2, 5, 9: K1, K2, one and two rows behind the last run end but one, and rows past the last run.
-fn copies_i32(rt: &impl Print, ends: &[u8]) -> io::Result<()>
-    requires { 4 * 3 ≤ length ends.now }
-{
-    copy_i32(rt, ends, 3, LogicalRow(2), LogicalRow(6), 0)?;
-    copy_i32(rt, ends, 3, LogicalRow(2), LogicalRow(6), 4)?;
-    copy_i32(rt, ends, 3, LogicalRow(0), LogicalRow(1), 2147483646)?;
-    copy_i32(rt, ends, 3, LogicalRow(0), LogicalRow(2), 2147483646)?;
-    copy_i32(rt, ends, 3, LogicalRow(8), LogicalRow(10), 0)
-}
-
-// The runs of the rows 0 to 9 among the first n, and the rows left in them before `last`.
-fn finds_i32(rt: &impl Print, ends: &[u8], n: usize, last: u64) -> io::Result<()>
-    requires { 4 * n ≤ length ends.now }
-{
-    for row in 0u64..10 {
-        put_found(
-            rt,
-            run_ends::find_run_i32(ends, 0, n, LogicalRow(row), LogicalRow(last)),
-        )?;
-    }
-    line(rt)
-}
-
-fn all_i32(rt: &impl Print) -> io::Result<()> {
-    let ends: [u8; 12] = [2, 0, 0, 0, 5, 0, 0, 0, 9, 0, 0, 0];
-    copies_i32(rt, &ends)?;
-    finds_i32(rt, &ends, 3, 9)?;
-    finds_i32(rt, &ends, 3, 7)?;
-    finds_i32(rt, &ends, 0, 9)
-}
-
-// The first m run ends.
-fn put_ends_i64(rt: &impl Print, ends: &[u8], m: usize) -> io::Result<()>
-    requires { 8 * m ≤ length ends.now }
-{
-    for k in 0..m {
-        put(rt, run_ends::run_end_i64(ends, 0, PhysicalRun(k)).0)?;
-    }
-    Ok(())
-}
-
-// Writes the run ends of m runs from `first` on, and prints them.
-fn clip_i64(
-    rt: &impl Print,
-    ends: &[u8],
-    first: PhysicalRun,
-    m: usize,
-    start: LogicalRow,
-    end: LogicalRow,
-    last: u64,
-) -> io::Result<()>
-    requires m_in_bounds { 8 * first.0 + 8 * m ≤ length ends.now }
-    requires start_bound { last + (end.0 - start.0) < 256 ^ 8 / 2 }
-{
-    let mut room = [0u8; 64];
-    let a = first.0;
-    if m <= 8 {
-        copies::extend_run_ends_i64(&mut room, 0, ends, 8 * a, m, start, end, last);
-        put_ends_i64(rt, &room, m)?;
-    }
-    Ok(())
-}
-
-// A copy of the rows start .. end - 1 behind the run end `last`: its runs, and its run ends or that they do not fit.
-fn copy_i64(
-    rt: &impl Print,
-    ends: &[u8],
-    n: usize,
-    start: LogicalRow,
-    end: LogicalRow,
-    last: u64,
-) -> io::Result<()>
-    requires { 8 * n ≤ length ends.now }
-{
-    match run_ends::runs_of_range_i64(ends, 0, n, start, end) {
-        Runs::Range { first, count } => {
-            put(rt, first.0 as u64)?;
-            put(rt, count as u64)?;
-            if fits(last, end.0 - start.0, 9223372036854775807) {
-                clip_i64(rt, ends, first, count, start, end, last)?;
-            } else {
-                rt.write_all(b"over ")?;
-            }
-        }
-        Runs::None => {
-            rt.write_all(b"none ")?;
-        }
-    }
-    line(rt)
-}
-
-// Copies from the run ends 2, 5, 9: K1, K2, one and two rows behind the last run end but one, and rows past the last run.
-fn copies_i64(rt: &impl Print, ends: &[u8]) -> io::Result<()>
-    requires { 8 * 3 ≤ length ends.now }
-{
-    copy_i64(rt, ends, 3, LogicalRow(2), LogicalRow(6), 0)?;
-    copy_i64(rt, ends, 3, LogicalRow(2), LogicalRow(6), 4)?;
-    copy_i64(
-        rt,
-        ends,
-        3,
-        LogicalRow(0),
-        LogicalRow(1),
-        9223372036854775806,
-    )?;
-    copy_i64(
-        rt,
-        ends,
-        3,
-        LogicalRow(0),
-        LogicalRow(2),
-        9223372036854775806,
-    )?;
-    copy_i64(rt, ends, 3, LogicalRow(8), LogicalRow(10), 0)
-}
-
-// The runs of the rows 0 to 9 among the first n, and the rows left in them before `last`.
-fn finds_i64(rt: &impl Print, ends: &[u8], n: usize, last: u64) -> io::Result<()>
-    requires { 8 * n ≤ length ends.now }
-{
-    for row in 0u64..10 {
-        put_found(
-            rt,
-            run_ends::find_run_i64(ends, 0, n, LogicalRow(row), LogicalRow(last)),
-        )?;
-    }
-    line(rt)
-}
-
-fn all_i64(rt: &impl Print) -> io::Result<()> {
-    let ends: [u8; 24] = [
-        2, 0, 0, 0, 0, 0, 0, 0, 5, 0, 0, 0, 0, 0, 0, 0, 9, 0, 0, 0, 0, 0, 0, 0,
-    ];
-    copies_i64(rt, &ends)?;
-    finds_i64(rt, &ends, 3, 9)?;
-    finds_i64(rt, &ends, 3, 7)?;
-    finds_i64(rt, &ends, 0, 9)
+    copies::<N>(rt, ends, most)?;
+    finds::<N>(rt, ends, 3, 9)?;
+    finds::<N>(rt, ends, 3, 7)?;
+    finds::<N>(rt, ends, 0, 9)
 }
 
 pub fn all(rt: &impl Print) -> io::Result<()> {
-    all_i16(rt)?;
-    all_i32(rt)?;
-    all_i64(rt)
+    let two: [u8; 6] = [2, 0, 5, 0, 9, 0];
+    let four: [u8; 12] = [2, 0, 0, 0, 5, 0, 0, 0, 9, 0, 0, 0];
+    let eight: [u8; 24] = [
+        2, 0, 0, 0, 0, 0, 0, 0, 5, 0, 0, 0, 0, 0, 0, 0, 9, 0, 0, 0, 0, 0, 0, 0,
+    ];
+    all_of::<u16>(rt, &two, 32767)?;
+    all_of::<u32>(rt, &four, 2147483647)?;
+    all_of::<u64>(rt, &eight, 9223372036854775807)
 }

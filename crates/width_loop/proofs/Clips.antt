@@ -12,9 +12,8 @@ use borrow.Author.Tests.{eqb-true, eqb-false}
 use Rattle.number.specs.Number.{encode, entry}
 use Rattle.number.proofs.Laws.{splice_nil}
 use Rattle.run_ends.specs.Lookup.{found_run, runs_of}
-use Rattle.run_ends.specs.declared.Runs.{Runs}
-use Rattle.run_ends.specs.declared.Runs.TheVariants.{Range, None}
-use Rattle.run_ends.specs.declared.PhysicalRun.{PhysicalRun}
+use Rattle.std.specs.Prelude.{Option, Some, None}
+use Rattle.run_ends.specs.declared.RunRange.{RunRange}
 use Rattle.columnar.specs.Row.{seg}
 use Rattle.columnar.specs.Types.{half}
 use Rattle.columnar.specs.Entries.{encodes}
@@ -55,7 +54,7 @@ module _ (x : Tables) (i w s n : ℕ) (h : RunsHere x i w s n) (some : 1 ≤ n) 
       let z : (off + k) * w + w ≤ (off + len) * w = entry_end w {i = off + k} {n = off + len} (omega arith) in
       part_entry (as_part x.body (place x (suc i) 3) (place x (suc i) 4) h.inside) w off k (omega (arith, h.hold))
 
-  found : runs_of (found_run w x.body from len (s + n)) s (s + n) ≡ Range (record { 0 = First old len s n }) (Many old len s n)
+  found : runs_of (found_run w x.body from len (s + n)) s (s + n) ≡ Some (record { first = record { 0 = First old len s n }; count = Many old len s n })
   found = runs_are w x.body from len old s n end_is h.rises some h.covers
 
   first_is : first_of w (runs_in x i) s n ≡ First old len s n
@@ -79,16 +78,16 @@ module _ (x : Tables) (i w s n : ℕ) (h : RunsHere x i w s n) (some : 1 ≤ n) 
   few_runs = omega (arith, in_order_lem old len s n h.rises some h.covers, last_run old len s n h.rises some h.covers)
 
   -- what the search answers
-  same_range : {a b : ℕ} {r : PhysicalRun} {q : ℕ} → Range r q ≡ Range (record { 0 = a }) b → (r.0 ≡ a) × (q ≡ b)
-  same_range e = (cc, cc)
+  same_range : {a b : ℕ} {r : RunRange} → Some r ≡ Some (record { first = record { 0 = a }; count = b }) → (r.first.0 ≡ a) × (r.count ≡ b)
+  same_range {a} {b} {r} e = let z : r ≡ record { first = record { 0 = a }; count = b } = cc in (ap (λ (y : RunRange). y.first.0) z, ap (λ (y : RunRange). y.count) z)
 
-  pub runs_found : {e l : ℕ} {r : Runs} {a : PhysicalRun} {m : ℕ} → e ≡ from → l ≡ len → r ≡ runs_of (found_run w x.body e l (s + n)) s (s + n) → r ≡ Range a m → (a.0 ≡ First old len s n) × (m ≡ Many old len s n)
+  pub runs_found : {e l : ℕ} {r : Option RunRange} {a : RunRange} → e ≡ from → l ≡ len → r ≡ runs_of (found_run w x.body e l (s + n)) s (s + n) → r ≡ Some a → (a.first.0 ≡ First old len s n) × (a.count ≡ Many old len s n)
   runs_found {e} {l} p q f g = same_range (sym g ∙ f ∙ ap₂ (λ y z. runs_of (found_run w x.body y z (s + n)) s (s + n)) p q ∙ found)
 
-  none_range : {a b : ℕ} → ◌≡◌ {A = Runs} None (Range (record { 0 = a }) b) → ⊥
+  none_range : {a : RunRange} → None ≡ Some a → ⊥
   none_range e = let z : ◌≡◌ {A = ℕ} 0 1 = cc in omega arith
 
-  pub runs_none : {e l : ℕ} {r : Runs} → e ≡ from → l ≡ len → r ≡ runs_of (found_run w x.body e l (s + n)) s (s + n) → r ≡ None → ⊥
+  pub runs_none : {e l : ℕ} {r : Option RunRange} → e ≡ from → l ≡ len → r ≡ runs_of (found_run w x.body e l (s + n)) s (s + n) → r ≡ None → ⊥
   runs_none {e} {l} p q f g = none_range (sym g ∙ f ∙ ap₂ (λ y z. runs_of (found_run w x.body y z (s + n)) s (s + n)) p q ∙ found)
 
   -- where they stand

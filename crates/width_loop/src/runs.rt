@@ -17,7 +17,7 @@ ghost use Rattle.width_loop.specs.Here.{AnyTree};
 use crate::ranges;
 use array_data::entries;
 use nested_rows::lookups;
-use run_ends::{LogicalRow, Runs};
+use run_ends::LogicalRow;
 use walk::plan_words;
 
 // m runs from run a on, of those whose ends of w bytes stand at `ends`: their ends less s, the last of them n, and their values' rows.
@@ -98,7 +98,7 @@ fn put_runs(
         LogicalRow(s),
         LogicalRow(s + n),
     ) {
-        Runs::Range { first: run, count } => put_range(
+        Some(runs) => put_range(
             plan,
             parts,
             body,
@@ -110,12 +110,12 @@ fn put_runs(
             w,
             w2,
             ends,
-            run.0 as u64,
-            count as u64,
+            runs.first.0 as u64,
+            runs.count as u64,
             s,
             n,
         ),
-        Runs::None => {}
+        None => {}
     }
 }
 

@@ -11,8 +11,8 @@ use Rattle.schema.specs.formats.Code.{is_fixed, is_string, is_view, is_list_view
 use Rattle.utils.specs.Extension.{extended}
 use Rattle.utils.specs.declared.Extended.{Extended}
 use Rattle.utils.specs.declared.Extended.TheVariants.{Fits, Over, Falls}
-use Rattle.run_ends.specs.declared.Runs.{Runs}
-use Rattle.run_ends.specs.declared.Runs.TheVariants.{Range, None}
+use Rattle.std.specs.Prelude.{Option, Some, None}
+use Rattle.run_ends.specs.declared.RunRange.{RunRange}
 use Rattle.walk.specs.State.{Join, code_of, dictionary_of, end_of, keeps_of, bytes_of, rows, bytes, place, far, add_rows, add_nulls, set_bytes}
 use Rattle.walk.specs.Log.{Entry, Out, fail, done, wrote, need, found, next, each}
 use Rattle.walk.specs.Leaves.{copy_bits, copy_mask, copy_numbers, copy_keys, copy_views, put_string, put_extended, copy_string}
@@ -155,10 +155,10 @@ module _ (x : Join) where
     unfolding copy_dense dense_row
     near_dense slot n h = near_need refl 12 h (near_each _ (λ r c1 d1 g. near_found 32 _ 12 _ _ g (near_to slot r _ g)) n 0 h)
 
-    near_put : (w slot n : ℕ) (r : Runs) {c d : List ℕ} → Alike c d → Near (put_runs x walk w i slot n r c) (put_runs x walk w i slot n r d)
+    near_put : (w slot n : ℕ) (r : Option RunRange) {c d : List ℕ} → Alike c d → Near (put_runs x walk w i slot n r c) (put_runs x walk w i slot n r d)
     near_put w slot n None h = near_fail 12 h
-    near_put w slot n (Range start count) h =
-        near_next _ _ (below (suc (suc i)) start.0 count _ _ h) (λ c2 d2 g. near_next _ _ (near_wrote _ _ g) (λ c3 d3 k. near_done (alike_gap (alike_rows k (suc i) count) i)))
+    near_put w slot n (Some r) h =
+        near_next _ _ (below (suc (suc i)) r.first.0 r.count _ _ h) (λ c2 d2 g. near_next _ _ (near_wrote _ _ g) (λ c3 d3 k. near_done (alike_gap (alike_rows k (suc i) r.count) i)))
 
     near_runs : (slot n : ℕ) {c d : List ℕ} → Alike c d → Near (copy_runs x walk i slot n c) (copy_runs x walk i slot n d)
     unfolding copy_runs
