@@ -89,8 +89,7 @@ pub fn dense_good(body: &[u8], at: usize, too: usize, n: usize, ids: &[u8], lens
     true
 }
 
-// Whether each of the n keys at `at` is below bound: the largest of them is. Of bytes it is found many at once; wider keys take up to twice
-// the time of the loop in `keys_below`, since the baseline has no such instruction for them.
+// Whether each of the n keys at `at` is below bound: the largest of them is, which is found many at once.
 fn largest_below<N: Unsigned>(body: &[u8], at: usize, n: usize, bound: u64) -> bool
     requires { at + N.SIZE * n ≤ length body.now }
     ensures { result ≡ keys_below N.SIZE body.now at bound n }
@@ -113,17 +112,16 @@ pub fn keys_below<N: Unsigned>(body: &[u8], at: usize, n: usize, bound: u64) -> 
     requires { at + N.SIZE * n ≤ length body.now }
     ensures { result ≡ keys_below N.SIZE body.now at bound n }
 {
-    let most = N::truncate(bound);
-    if most.to_u64() < bound {
+    if N::truncate(bound).to_u64() < bound {
         return true;
     }
-    if N::SIZE == 1 {
+    if N::SIZE < 8 {
         return largest_below::<N>(body, at, n, bound);
     }
+    // The machine has no maximum of 8 bytes: the largest of these takes twice the time of a flag.
     let mut good = true;
     for i in 0..n {
-        let key = N::read(body, at + N::SIZE * i);
-        if most.to_u64() <= key.to_u64() {
+        if bound <= N::read(body, at + N::SIZE * i).to_u64() {
             good = false;
         }
     }

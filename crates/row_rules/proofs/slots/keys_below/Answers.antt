@@ -8,4 +8,4 @@ pub returns-then-to_u64-bound : goal.returns-then-to_u64-bound
 returns-then-to_u64-bound g c =
     let z = c.args in
     let w = g.N.Unsigned.SIZE in
-    keys_all w z.body.now z.at z.bound (λ j. (c.type_inv.body j).fits) (past c.truncate-most.ensures (omega arith)) z.n
+    keys_all w z.body.now z.at z.bound (λ j. (c.type_inv.body j).fits) (past c.truncate.ensures (omega arith)) z.n
