@@ -11,15 +11,6 @@ loop-q-init c =
     let z = c.args in
     behind_none z.names.now z.at
 
-pub pair_at-requires : goal.pair_at-requires
-pair_at-requires c = omega arith
-
-pub overflow_add-names : goal.overflow_add-names
-overflow_add-names c = omega arith
-
-pub offset_bounds-names-at : goal.offset_bounds-names-at
-offset_bounds-names-at c = omega arith
-
 pub bounds-names-at : goal.bounds-names-at
 bounds-names-at c = omega (arith, c.loop-q.invariant.same)
 

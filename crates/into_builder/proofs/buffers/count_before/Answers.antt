@@ -11,12 +11,6 @@ loop-i-init c =
     let z = c.args in
     (omega arith, sym (before_none z.plan.now z.sources.now z.places.now))
 
-pub count_at-sum-requires : goal.count_at-sum-requires
-count_at-sum-requires c = omega arith
-
-pub overflow_add-sum : goal.overflow_add-sum
-overflow_add-sum c = omega arith
-
 pub loop-i-preserved : goal.loop-i-preserved
 loop-i-preserved c =
     let z = c.args in

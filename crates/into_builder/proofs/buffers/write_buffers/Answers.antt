@@ -5,9 +5,6 @@ use Rattle.into_builder.proofs.buffers.Names.{before_none, before_more, before_w
 use native.Mathlib.Omega.{arith}
 use Rattle.into_builder.proofs.buffers.write_buffers.Goals as goal
 
-pub node_count-n-requires : goal.node_count-n-requires
-node_count-n-requires c = omega arith
-
 pub loop-i-init : goal.loop-i-init
 loop-i-init c =
     let z = c.args in

@@ -9,12 +9,6 @@ use Rattle.into_builder.specs.counts.Counts.{kept_of}
 use native.Mathlib.Omega.{arith}
 use Rattle.into_builder.proofs.counts.all_kept.Goals as goal
 
-pub node_count-n-requires : goal.node_count-n-requires
-node_count-n-requires c = omega arith
-
-pub loop-i-init : goal.loop-i-init
-loop-i-init c = refl
-
 pub kept_in-requires : goal.kept_in-requires
 kept_in-requires c = omega (arith, c.node_count-n.ensures.upper_bound)
 

@@ -7,9 +7,6 @@ use Rattle.into_builder.proofs.counts.Nulls.{length_word}
 use native.Mathlib.Omega.{arith}
 use Rattle.into_builder.proofs.counts.write_lengths.Goals as goal
 
-pub node_count-n-requires : goal.node_count-n-requires
-node_count-n-requires c = omega arith
-
 pub overflow_mul-n : goal.overflow_mul-n
 overflow_mul-n c = omega (arith, c.node_count-n.ensures.upper_bound)
 
@@ -18,9 +15,6 @@ loop-q-init c = behind_none c.args.table.now 0
 
 pub length_word-requires : goal.length_word-requires
 length_word-requires c = omega (arith, c.node_count-n.ensures.upper_bound)
-
-pub offset_bounds-table-q : goal.offset_bounds-table-q
-offset_bounds-table-q c = omega arith
 
 pub bounds-table-q : goal.bounds-table-q
 bounds-table-q c = omega (arith, c.node_count-n.ensures.value, c.loop-q.invariant.same)

@@ -10,9 +10,6 @@ use Rattle.into_builder.proofs.buffers.Written.{behind_none, table_more, table_a
 use native.Mathlib.Omega.{arith}
 use Rattle.into_builder.proofs.counts.write_nulls.Goals as goal
 
-pub node_count-n-requires : goal.node_count-n-requires
-node_count-n-requires c = omega arith
-
 pub loop-i-init : goal.loop-i-init
 loop-i-init c = behind_none c.args.table.now 0
 

@@ -9,9 +9,6 @@ use Rattle.into_builder.proofs.buffers.Written.{behind_none, table_more, table_a
 use native.Mathlib.Omega.{arith}
 use Rattle.into_builder.proofs.places.write_places.Goals as goal
 
-pub node_count-n-requires : goal.node_count-n-requires
-node_count-n-requires c = omega arith
-
 pub overflow_mul-n : goal.overflow_mul-n
 overflow_mul-n c = omega (arith, c.node_count-n.ensures.upper_bound)
 
