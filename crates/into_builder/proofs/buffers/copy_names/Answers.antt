@@ -1,6 +1,6 @@
 -- `buffer_names::copy_names` meets its contract. The invariant: the first q numbers are written. Assumes nothing.
 use mathlib.Core.Path.{ap, ◌∙◌}
-use Prim.Native.Nat.{◌*◌, ◌-◌}
+use Prim.Native.Nat.{◌*◌}
 use lib.ListN.{get_or}
 use Rattle.into_builder.proofs.buffers.Written.{behind_none, seg_more, seg_all}
 use native.Mathlib.Omega.{arith}

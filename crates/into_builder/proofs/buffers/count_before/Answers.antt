@@ -1,6 +1,6 @@
 -- `buffer_names::count_before` meets its contract. The invariant: the sum over the first i nodes. Assumes nothing.
 use mathlib.Core.Path.{sym, ap, ap₂, ◌∙◌}
-use Prim.Native.Nat.{◌+◌, ◌-◌}
+use Prim.Native.Nat.{◌+◌}
 use Rattle.into_builder.specs.buffers.Names.{count_before}
 use Rattle.into_builder.proofs.buffers.Names.{before_none, before_more}
 use native.Mathlib.Omega.{arith}

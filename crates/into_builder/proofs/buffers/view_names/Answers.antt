@@ -1,6 +1,6 @@
 -- `buffer_names::view_names` meets its contract. The invariant: the data buffers of the first s sources are written. Assumes nothing.
 use mathlib.Core.Path.{ap, ◌∙◌}
-use Prim.Native.Nat.{◌+◌, ◌*◌, ◌-◌, min}
+use Prim.Native.Nat.{◌+◌, ◌*◌, min}
 use lib.ListN.{get_or}
 use Rattle.refinement.specs.orders.Order.{source_count}
 use Rattle.into_builder.proofs.buffers.Names.{of_none, of_more, of_within, sources_none, sources_more, sources_all}

@@ -1,6 +1,5 @@
 -- `finished_counts::all_kept` meets its contract. The invariant: the nodes below i pass. Assumes nothing.
-use mathlib.Core.Path.{refl, sym}
-use Prim.Native.Nat.{◌-◌}
+use mathlib.Core.Path.{sym}
 use Rattle.columnar.proofs.Test.{every_false}
 use Rattle.array_data.proofs.lent_tables.Laws.{no, yes}
 use Rattle.plan.specs.parts.Parts.{nodes_of}

@@ -1,5 +1,5 @@
 -- `finished_counts::write_lengths` meets its contract. The invariant: the first q numbers are written. Assumes nothing.
-use Prim.Native.Nat.{◌*◌, ◌-◌}
+use Prim.Native.Nat.{◌*◌}
 use Rattle.plan.specs.parts.Parts.{nodes_of}
 use Rattle.refinement.specs.finishing.Finish.{length_table}
 use Rattle.into_builder.proofs.buffers.Written.{behind_none, table_more, table_all}

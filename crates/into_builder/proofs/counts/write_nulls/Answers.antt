@@ -1,6 +1,6 @@
 -- `finished_counts::write_nulls` meets its contract. The invariant: the first i counts are written. Assumes nothing.
 use mathlib.Core.List.{[]}
-use Prim.Native.Nat.{◌<◌, ◌-◌}
+use Prim.Native.Nat.{◌<◌}
 use Rattle.plan.specs.parts.Parts.{nodes_of}
 use Rattle.plan.proofs.parts.Placed.{every_at}
 use Rattle.refinement.specs.finishing.Finish.{nulls_at, null_table}

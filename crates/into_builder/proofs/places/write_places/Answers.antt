@@ -1,7 +1,5 @@
 -- `finished_places::write_places` meets its contract. The invariant: the first q numbers are written. Assumes nothing.
-use mathlib.Core.Path.{refl, ◌∙◌}
-use Prim.Native.Nat.{◌*◌, ◌/◌, ◌%◌, ◌-◌, ◌<◌}
-use lib.ListN.{length-set}
+use Prim.Native.Nat.{◌*◌, ◌/◌, ◌%◌, ◌<◌}
 use Rattle.plan.specs.parts.Parts.{nodes_of}
 use Rattle.refinement.specs.finishing.Finish.{place_at, place_table}
 use Rattle.into_builder.specs.buffers.Names.{lent}
