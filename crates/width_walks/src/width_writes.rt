@@ -32,9 +32,7 @@ pub fn put_less(
 {
     let size = plan_words::scale(n, w2);
     if let Some(at) = plan_words::target(plan, parts, room.len(), write, i, b, 0, size) {
-        offsets::recode_less(
-            room, at, w2, body, from, w, n as usize, base,
-        );
+        offsets::recode_less(room, at, w2, body, from, w, n as usize, base);
     }
 }
 
@@ -86,9 +84,7 @@ pub fn put_valid(
 {
     let size = plan_words::scale(n, w2);
     if let Some(at) = plan_words::target(plan, parts, room.len(), write, i, b, 0, size) {
-        keys::recode_valid(
-            room, at, w2, body, from, w, valid, a as usize, n as usize,
-        );
+        keys::recode_valid(room, at, w2, body, from, w, valid, a as usize, n as usize);
     }
 }
 

@@ -5,10 +5,9 @@ use Prim.Native.Nat.{ℕ, suc, ◌+◌, ◌≤◌, ◌<◌}
 use native.Mathlib.Nat.{add-zero, zero-add}
 use native.Mathlib.Numerals.{add-one}
 use native.Mathlib.Omega.{arith}
-use lib.ListN.{length, take, get_or, set, length-set}
-use lib.Seq.{take_all, take-suc-set, ext_get_or}
+use lib.ListN.{length, take, set, length-set}
+use lib.Seq.{take_all, take-suc-set}
 use Rattle.columnar.specs.Row.{seg}
-use Rattle.model.proofs.Bits.{length_seg, get_d_seg}
 use Rattle.array_data.proofs.node_words.Laws.{seg_snoc}
 use Rattle.into_builder.specs.buffers.Names.{Behind}
 
@@ -61,9 +60,3 @@ module _ (f : ℕ → ℕ) (l m : List ℕ) where
 
   pub table_all : (q n : ℕ) → q ≡ n → length l ≡ n → Behind l m 0 q (seg f 0 q) → m ≡ seg f 0 n
   table_all q n e h b = behind_all b (omega arith) ∙ ap (seg f 0) e
-
--- every number of a table
-pub seg_self : (l : List ℕ) (n : ℕ) → length l ≡ n → seg (λ q. get_or l q 0) 0 n ≡ l
-seg_self l n e =
-    ext_get_or 0 (seg (λ q. get_or l q 0) 0 n) l (length_seg (λ q. get_or l q 0) 0 n ∙ sym e)
-    (λ i h. get_d_seg (λ q. get_or l q 0) 0 n i 0 (omega (arith, length_seg (λ q. get_or l q 0) 0 n)) ∙ ap (λ q. get_or l q 0) (zero-add i))

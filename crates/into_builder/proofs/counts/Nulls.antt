@@ -10,7 +10,7 @@ use borrow.Author.Tests.{lt-ltb, le-ltb, ltb-true, ltb-false, eq-eqb, ne_eqb}
 use Rattle.bits.specs.Bits.{bits_at, zeros}
 use Rattle.columnar.specs.Array.{null_count_of}
 use Rattle.array_data.specs.lent_tables.Lent.{tables, mask_of}
-use Rattle.array_data.proofs.lent_tables.Laws.{and_left, and_right}
+use Rattle.array_data.proofs.lent_tables.Laws.{and_right}
 use Rattle.plan.specs.dictionaries.Sources.{array_of, Countable}
 use Rattle.array_data.specs.Sources.{first_of}
 use Rattle.walk.specs.State.{rows, grown, far}

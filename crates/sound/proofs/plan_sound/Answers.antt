@@ -9,14 +9,8 @@ use Rattle.refinement.specs.orders.Sound.{node_sound}
 use Rattle.sound.proofs.Laws.{plan_none, plan_no, plan_all}
 use Rattle.sound.proofs.plan_sound.Goals as goal
 
-pub node_count-n-requires : goal.node_count-n-requires
-node_count-n-requires c = omega arith
-
 pub returns-then-n-eq0 : goal.returns-then-n-eq0
 returns-then-n-eq0 c = plan_none c.args.plan.now c.node_count-n.ensures.value c.if-n-eq0.true
-
-pub loop-i-init : goal.loop-i-init
-loop-i-init c = refl
 
 pub node_sound-requires : goal.node_sound-requires
 node_sound-requires c = (omega (arith, c.node_count-n.ensures.upper_bound), c.node_count-n.ensures.upper_bound)

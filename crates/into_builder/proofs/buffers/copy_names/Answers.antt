@@ -1,6 +1,6 @@
 -- `buffer_names::copy_names` meets its contract. The invariant: the first q numbers are written. Assumes nothing.
 use mathlib.Core.Path.{ap, ◌∙◌}
-use Prim.Native.Nat.{◌*◌, ◌-◌}
+use Prim.Native.Nat.{◌*◌}
 use lib.ListN.{get_or}
 use Rattle.into_builder.proofs.buffers.Written.{behind_none, seg_more, seg_all}
 use native.Mathlib.Omega.{arith}
@@ -10,15 +10,6 @@ pub loop-q-init : goal.loop-q-init
 loop-q-init c =
     let z = c.args in
     behind_none z.names.now z.at
-
-pub pair_at-requires : goal.pair_at-requires
-pair_at-requires c = omega arith
-
-pub overflow_add-names : goal.overflow_add-names
-overflow_add-names c = omega arith
-
-pub offset_bounds-names-at : goal.offset_bounds-names-at
-offset_bounds-names-at c = omega arith
 
 pub bounds-names-at : goal.bounds-names-at
 bounds-names-at c = omega (arith, c.loop-q.invariant.same)

@@ -1,4 +1,4 @@
-use Prim.Native.Nat.{◌*◌, ◌-◌, ◌≤◌}
+use Prim.Native.Nat.{◌*◌}
 use lib.ListN.{get_or}
 use Rattle.columnar.specs.Row.{seg}
 use Rattle.into_builder.specs.buffers.Names.{Behind}

@@ -1,6 +1,6 @@
 -- `buffer_names::count_before` meets its contract. The invariant: the sum over the first i nodes. Assumes nothing.
 use mathlib.Core.Path.{sym, ap, ap₂, ◌∙◌}
-use Prim.Native.Nat.{◌+◌, ◌-◌}
+use Prim.Native.Nat.{◌+◌}
 use Rattle.into_builder.specs.buffers.Names.{count_before}
 use Rattle.into_builder.proofs.buffers.Names.{before_none, before_more}
 use native.Mathlib.Omega.{arith}
@@ -10,12 +10,6 @@ pub loop-i-init : goal.loop-i-init
 loop-i-init c =
     let z = c.args in
     (omega arith, sym (before_none z.plan.now z.sources.now z.places.now))
-
-pub count_at-sum-requires : goal.count_at-sum-requires
-count_at-sum-requires c = omega arith
-
-pub overflow_add-sum : goal.overflow_add-sum
-overflow_add-sum c = omega arith
 
 pub loop-i-preserved : goal.loop-i-preserved
 loop-i-preserved c =

@@ -1,5 +1,5 @@
 use mathlib.Core.Path.{◌≡◌}
-use Prim.Native.Nat.{◌*◌, ◌-◌, ◌≤◌}
+use Prim.Native.Nat.{◌*◌, ◌≤◌}
 use Rattle.into_builder.specs.buffers.Names.{count_before}
 use Rattle.into_builder.proofs.buffers.count_before.Given as goal
 

@@ -1,31 +1,16 @@
 -- `buffer_names::view_names` meets its contract. The invariant: the data buffers of the first s sources are written. Assumes nothing.
 use mathlib.Core.Path.{ap, ◌∙◌}
-use Prim.Native.Nat.{◌+◌, ◌*◌, ◌-◌, min}
+use Prim.Native.Nat.{◌+◌, ◌*◌, min}
 use lib.ListN.{get_or}
 use Rattle.refinement.specs.orders.Order.{source_count}
 use Rattle.into_builder.proofs.buffers.Names.{of_none, of_more, of_within, sources_none, sources_more, sources_all}
 use native.Mathlib.Omega.{arith}
 use Rattle.into_builder.proofs.buffers.view_names.Goals as goal
 
-pub source_count-m-requires : goal.source_count-m-requires
-source_count-m-requires c = omega arith
-
 pub loop-s-init : goal.loop-s-init
 loop-s-init c =
     let z = c.args in
     (omega (arith, of_none z.plan.now z.sources.now z.places.now z.i), sources_none z.plan.now z.sources.now z.places.now z.buffers.now z.names.now z.at z.i)
-
-pub node_of-k-requires : goal.node_of-k-requires
-node_of-k-requires c = omega arith
-
-pub place-from-requires : goal.place-from-requires
-place-from-requires c = omega arith
-
-pub buffers_of-n-requires : goal.buffers_of-n-requires
-buffers_of-n-requires c = omega arith
-
-pub overflow_mul-n : goal.overflow_mul-n
-overflow_mul-n c = omega arith
 
 pub copy_names-requires : goal.copy_names-requires
 copy_names-requires c =
@@ -34,9 +19,6 @@ copy_names-requires c =
     let h = of_within z.plan.now z.sources.now z.places.now z.i l.s (min (source_count z.plan.now) 16) (omega (arith, c.source_count-m.ensures.value)) in
     let e = c.buffers_of-n.ensures.value ∙ ap (λ a. min (get_or z.places.now (9 * a + 8) 0) 33) c.node_of-k.ensures.value in
     omega (arith, l.invariant.1.same, c.requires.1)
-
-pub overflow_mul-end : goal.overflow_mul-end
-overflow_mul-end c = omega arith
 
 pub overflow_add-end : goal.overflow_add-end
 overflow_add-end c =

@@ -1,6 +1,6 @@
 use mathlib.Core.Path.{◌≡◌}
 use mathlib.Core.List.{[]}
-use Prim.Native.Nat.{◌+◌, ◌*◌, ◌-◌, ◌≤◌}
+use Prim.Native.Nat.{◌+◌, ◌*◌}
 use Rattle.refinement.specs.finishing.Finish.{buffers_of, buffers_from}
 use Rattle.into_builder.specs.buffers.Names.{lent, Behind}
 use Rattle.into_builder.proofs.buffers.view_names.Given as goal

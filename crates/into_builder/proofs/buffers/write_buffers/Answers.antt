@@ -1,12 +1,8 @@
 -- `buffer_names::write_buffers` meets its contract. The invariant: the data buffers of the first i nodes are written. Assumes nothing.
-use Prim.Native.Nat.{◌-◌}
 use Rattle.plan.specs.parts.Parts.{nodes_of}
 use Rattle.into_builder.proofs.buffers.Names.{before_none, before_more, before_within, nodes_none, nodes_more, nodes_all}
 use native.Mathlib.Omega.{arith}
 use Rattle.into_builder.proofs.buffers.write_buffers.Goals as goal
-
-pub node_count-n-requires : goal.node_count-n-requires
-node_count-n-requires c = omega arith
 
 pub loop-i-init : goal.loop-i-init
 loop-i-init c =

@@ -1,6 +1,5 @@
 -- `finished_counts::all_kept` meets its contract. The invariant: the nodes below i pass. Assumes nothing.
-use mathlib.Core.Path.{refl, sym}
-use Prim.Native.Nat.{◌-◌}
+use mathlib.Core.Path.{sym}
 use Rattle.columnar.proofs.Test.{every_false}
 use Rattle.array_data.proofs.lent_tables.Laws.{no, yes}
 use Rattle.plan.specs.parts.Parts.{nodes_of}
@@ -8,12 +7,6 @@ use Rattle.plan.proofs.parts.Laws.{every_one, every_now}
 use Rattle.into_builder.specs.counts.Counts.{kept_of}
 use native.Mathlib.Omega.{arith}
 use Rattle.into_builder.proofs.counts.all_kept.Goals as goal
-
-pub node_count-n-requires : goal.node_count-n-requires
-node_count-n-requires c = omega arith
-
-pub loop-i-init : goal.loop-i-init
-loop-i-init c = refl
 
 pub kept_in-requires : goal.kept_in-requires
 kept_in-requires c = omega (arith, c.node_count-n.ensures.upper_bound)

@@ -1,6 +1,5 @@
 use mathlib.Core.Path.{◌≡◌}
 use mathlib.Core.Bool.{true}
-use Prim.Native.Nat.{◌-◌, ◌≤◌}
 use Rattle.columnar.specs.Test.{every}
 use Rattle.into_builder.specs.counts.Counts.{kept_of}
 use Rattle.into_builder.proofs.counts.all_kept.Given as goal

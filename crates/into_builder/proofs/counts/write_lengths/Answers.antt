@@ -1,14 +1,11 @@
 -- `finished_counts::write_lengths` meets its contract. The invariant: the first q numbers are written. Assumes nothing.
-use Prim.Native.Nat.{◌*◌, ◌-◌}
+use Prim.Native.Nat.{◌*◌}
 use Rattle.plan.specs.parts.Parts.{nodes_of}
 use Rattle.refinement.specs.finishing.Finish.{length_table}
 use Rattle.into_builder.proofs.buffers.Written.{behind_none, table_more, table_all}
 use Rattle.into_builder.proofs.counts.Nulls.{length_word}
 use native.Mathlib.Omega.{arith}
 use Rattle.into_builder.proofs.counts.write_lengths.Goals as goal
-
-pub node_count-n-requires : goal.node_count-n-requires
-node_count-n-requires c = omega arith
 
 pub overflow_mul-n : goal.overflow_mul-n
 overflow_mul-n c = omega (arith, c.node_count-n.ensures.upper_bound)
@@ -18,9 +15,6 @@ loop-q-init c = behind_none c.args.table.now 0
 
 pub length_word-requires : goal.length_word-requires
 length_word-requires c = omega (arith, c.node_count-n.ensures.upper_bound)
-
-pub offset_bounds-table-q : goal.offset_bounds-table-q
-offset_bounds-table-q c = omega arith
 
 pub bounds-table-q : goal.bounds-table-q
 bounds-table-q c = omega (arith, c.node_count-n.ensures.value, c.loop-q.invariant.same)

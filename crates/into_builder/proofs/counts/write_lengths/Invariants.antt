@@ -1,4 +1,3 @@
-use Prim.Native.Nat.{◌-◌, ◌≤◌}
 use Rattle.columnar.specs.Row.{seg}
 use Rattle.into_builder.specs.buffers.Names.{Behind}
 use Rattle.into_builder.proofs.counts.Nulls.{length_word}

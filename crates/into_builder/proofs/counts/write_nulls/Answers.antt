@@ -1,6 +1,6 @@
 -- `finished_counts::write_nulls` meets its contract. The invariant: the first i counts are written. Assumes nothing.
 use mathlib.Core.List.{[]}
-use Prim.Native.Nat.{◌<◌, ◌-◌}
+use Prim.Native.Nat.{◌<◌}
 use Rattle.plan.specs.parts.Parts.{nodes_of}
 use Rattle.plan.proofs.parts.Placed.{every_at}
 use Rattle.refinement.specs.finishing.Finish.{nulls_at, null_table}
@@ -9,9 +9,6 @@ use Rattle.into_builder.specs.counts.Counts.{kept_of}
 use Rattle.into_builder.proofs.buffers.Written.{behind_none, table_more, table_all}
 use native.Mathlib.Omega.{arith}
 use Rattle.into_builder.proofs.counts.write_nulls.Goals as goal
-
-pub node_count-n-requires : goal.node_count-n-requires
-node_count-n-requires c = omega arith
 
 pub loop-i-init : goal.loop-i-init
 loop-i-init c = behind_none c.args.table.now 0

@@ -1,5 +1,4 @@
 use mathlib.Core.List.{[]}
-use Prim.Native.Nat.{◌-◌, ◌≤◌}
 use Rattle.columnar.specs.Row.{seg}
 use Rattle.refinement.specs.finishing.Finish.{nulls_at}
 use Rattle.into_builder.specs.buffers.Names.{lent, Behind}

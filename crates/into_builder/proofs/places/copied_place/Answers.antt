@@ -49,9 +49,6 @@ returns-then-j-eq6 c =
     λ lengths body buffers room g.
     copied_six (lent z.plan.now z.parts.now z.sources.now lengths z.places.now body) buffers z.counters.now room z.base z.i z.j c.if-j-eq6.true c.buffer_size-then-j-eq6.ensures
 
-pub view_place-requires : goal.view_place-requires
-view_place-requires c = c.requires.0
-
 pub returns : goal.returns
 returns c =
     let z = c.args in

@@ -4,12 +4,6 @@ use Rattle.into_builder.proofs.places.Spots.{place_copied, place_kept, nulls_zer
 use native.Mathlib.Omega.{arith}
 use Rattle.into_builder.proofs.places.place_at.Goals as goal
 
-pub is_copied-requires : goal.is_copied-requires
-is_copied-requires c = omega arith
-
-pub copied_place-requires : goal.copied_place-requires
-copied_place-requires c = c.requires
-
 pub returns-then-is_copied : goal.returns-then-is_copied
 returns-then-is_copied c =
     let z = c.args in

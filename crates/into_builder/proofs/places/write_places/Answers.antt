@@ -1,16 +1,11 @@
 -- `finished_places::write_places` meets its contract. The invariant: the first q numbers are written. Assumes nothing.
-use mathlib.Core.Path.{refl, ◌∙◌}
-use Prim.Native.Nat.{◌*◌, ◌/◌, ◌%◌, ◌-◌, ◌<◌}
-use lib.ListN.{length-set}
+use Prim.Native.Nat.{◌*◌, ◌/◌, ◌%◌, ◌<◌}
 use Rattle.plan.specs.parts.Parts.{nodes_of}
 use Rattle.refinement.specs.finishing.Finish.{place_at, place_table}
 use Rattle.into_builder.specs.buffers.Names.{lent}
 use Rattle.into_builder.proofs.buffers.Written.{behind_none, table_more, table_all}
 use native.Mathlib.Omega.{arith}
 use Rattle.into_builder.proofs.places.write_places.Goals as goal
-
-pub node_count-n-requires : goal.node_count-n-requires
-node_count-n-requires c = omega arith
 
 pub overflow_mul-n : goal.overflow_mul-n
 overflow_mul-n c = omega (arith, c.node_count-n.ensures.upper_bound)

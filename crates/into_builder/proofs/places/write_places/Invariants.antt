@@ -1,7 +1,6 @@
 use mathlib.Core.Path.{◌≡◌}
 use mathlib.Core.List.{List, []}
-use Prim.Native.Nat.{ℕ, ◌/◌, ◌%◌, ◌-◌, ◌≤◌}
-use lib.ListN.{length}
+use Prim.Native.Nat.{ℕ, ◌/◌, ◌%◌}
 use Rattle.columnar.specs.Row.{seg}
 use Rattle.refinement.specs.finishing.Finish.{null_table, place_at}
 use Rattle.into_builder.specs.buffers.Names.{lent, Behind}

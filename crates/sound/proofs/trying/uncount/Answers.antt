@@ -7,15 +7,6 @@ use Rattle.sound.proofs.trying.uncount.Goals as goal
 pub loop-i-init : goal.loop-i-init
 loop-i-init c = filled_none c.args.counters.now
 
-pub overflow_mul-counters : goal.overflow_mul-counters
-overflow_mul-counters c = omega arith
-
-pub overflow_add-counters : goal.overflow_add-counters
-overflow_add-counters c = omega arith
-
-pub offset_bounds-counters-i : goal.offset_bounds-counters-i
-offset_bounds-counters-i c = omega arith
-
 pub loop-i-preserved : goal.loop-i-preserved
 loop-i-preserved c =
     let l = c.loop-i in

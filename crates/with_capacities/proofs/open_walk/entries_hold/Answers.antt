@@ -10,21 +10,6 @@ use Rattle.refinement.specs.orders.Order.{lent}
 use Rattle.with_capacities.proofs.open_walk.Laws.{entry_holds, entry_at, entries_are}
 use Rattle.with_capacities.proofs.open_walk.entries_hold.Goals as goal
 
-pub loop-s-init : goal.loop-s-init
-loop-s-init c = refl
-
-pub overflow_add-i : goal.overflow_add-i
-overflow_add-i c = omega arith
-
-pub node_of-requires : goal.node_of-requires
-node_of-requires c = omega arith
-
-pub length_of-n-requires : goal.length_of-n-requires
-length_of-n-requires c = omega arith
-
-pub base_of-requires : goal.base_of-requires
-base_of-requires c = omega arith
-
 pub returns-then-not-fits : goal.returns-then-not-fits
 returns-then-not-fits c =
     let z = c.args in

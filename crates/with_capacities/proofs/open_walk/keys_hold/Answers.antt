@@ -19,18 +19,6 @@ returns-then-not-is_integer c =
 pub loop-s-init : goal.loop-s-init
 loop-s-init c = λ n e. refl
 
-pub base_of-start-requires : goal.base_of-start-requires
-base_of-start-requires c = omega arith
-
-pub overflow_add-i : goal.overflow_add-i
-overflow_add-i c = omega arith
-
-pub node_of-k-requires : goal.node_of-k-requires
-node_of-k-requires c = omega arith
-
-pub length_of-n-requires : goal.length_of-n-requires
-length_of-n-requires c = omega arith
-
 pub key_fits-requires : goal.key_fits-requires
 key_fits-requires c = yes c.is_integer.ensures c.if-not-is_integer.false-raw
 
