@@ -3,7 +3,6 @@ use mathlib.Core.Path.{◌≡◌, refl, sym, ap, ◌∙◌}
 use mathlib.Core.Bool.{Bool, true, false}
 use mathlib.Core.List.{List}
 use Prim.Native.Nat.{ℕ, zero, suc, ◌+◌, ◌*◌, ◌-◌, ◌/◌, ◌%◌, ◌≤◌, ◌<◌, min}
-use native.Mathlib.Nat.{le-div_iff_mul-le, mul-zero}
 use native.Mathlib.Omega.{arith}
 use lib.Dec.{ltb}
 use Rattle.schema.specs.formats.Code.{is_string, is_list_view, width_of}
@@ -12,24 +11,6 @@ use Rattle.plan.specs.parts.Parts.{nodes_of, validity_parts, part_count, part_fr
 use Rattle.plan.specs.declared.parts.Spot.{Spot}
 use Rattle.plan.specs.declared.parts.Spot.TheVariants.{Of, Nothing}
 use Rattle.refinement.specs.orders.Measure.{needed_in, needed_bytes}
-
--- ---- r entries of w bytes
-
-module _ (r w : ℕ) where
-  pub times_none : w ≡ 0 → 0 ≡ min (r * w) top
-  times_none e = rw (e, mul-zero)
-
-  pub times_over : (w ≡ 0 → ⊥) → top / w < r → top ≡ min (r * w) top
-  times_over h l =
-      let p : 0 < w = omega (arith, h) in
-      let f : r * w ≤ top → ⊥ = λ q. let g : r ≤ top / w = (le-div_iff_mul-le p).1 q in omega (arith, g, l) in
-      omega (arith, f)
-
-  pub inside : (w ≡ 0 → ⊥) → r ≤ top / w → r * w ≤ top
-  inside h l = let p : 0 < w = omega (arith, h) in (le-div_iff_mul-le p).0 l
-
-  pub times_fits : (w ≡ 0 → ⊥) → r ≤ top / w → r * w ≡ min (r * w) top
-  times_fits h l = omega (arith, inside h l)
 
 pub bits_are : (r : ℕ) → r ≤ top → r / 8 + (r % 8 + 7) / 8 ≡ min ((r + 7) / 8) top
 bits_are r h = omega arith

@@ -12,31 +12,6 @@ use Rattle.batch.proofs.batch_walk.Falls.{stretch_whole}
 use Rattle.batch.proofs.batch_walk.Fields.{child_same, homes_same, positions_same, fields_none, fields_end, fields_turned, fields_bare, fields_stop, fields_more}
 use Rattle.batch.proofs.dense_union.copy_children.Goals as goal
 
-pub loop-t-init : goal.loop-t-init
-loop-t-init c =
-    let a = c.args in
-    (omega arith, λ source g c2 room2 d. rw (c.end_of-last.ensures.value, add-one a.i) at d)
-
-pub returns-then-last-k : goal.returns-then-last-k
-returns-then-last-k c =
-    let a = c.args in
-    let l = c.loop-t in
-    λ source. l.invariant.1 source 0 l.counters l.room (fields_end (join a.plan.now a.parts.now a.lengths.now a.places.now a.body.now a.first source) a.i a.slot a.n a.write l.counters l.room c.end_of-last.result (32 - l.t) l.k c.if-last-k.true)
-
-pub returns-then-next-k : goal.returns-then-next-k
-returns-then-next-k c =
-    let a = c.args in
-    let l = c.loop-t in
-    let y : 32 - l.t ≡ suc (32 - (l.t + 1)) = omega arith in
-    λ source. l.invariant.1 source 12 l.counters l.room (fields_turned (join a.plan.now a.parts.now a.lengths.now a.places.now a.body.now a.first source) a.i a.slot a.n a.write l.counters l.room c.end_of-last.result (32 - l.t) l.k y c.if-last-k.false c.end_of-next.ensures.value c.if-next-k.true)
-
-pub returns-then-not-is_owned : goal.returns-then-not-is_owned
-returns-then-not-is_owned c =
-    let a = c.args in
-    let l = c.loop-t in
-    let y : 32 - l.t ≡ suc (32 - (l.t + 1)) = omega arith in
-    λ source. l.invariant.1 source 12 l.counters l.room (fields_bare (join a.plan.now a.parts.now a.lengths.now a.places.now a.body.now a.first source) a.i a.slot a.n a.write l.counters l.room c.end_of-last.result (32 - l.t) l.k y c.if-last-k.false c.end_of-next.ensures.value c.if-next-k.false c.is_owned.ensures c.if-not-is_owned.true-raw)
-
 pub copy_child-g-requires : goal.copy_child-g-requires
 copy_child-g-requires c =
     let a = c.args in
@@ -62,6 +37,26 @@ loop-t-preserved c =
       omega arith,
       λ source g2 c2 room2 q2. l.invariant.1 source g2 c2 room2 (fields_more (join a.plan.now a.parts.now a.lengths.now a.places.now a.body.now a.first source) a.i a.slot a.n a.write l.counters l.room c.end_of-last.result (32 - l.t) l.k y c.if-last-k.false c.end_of-next.ensures.value c.if-next-k.false c.is_owned.ensures c.if-not-is_owned.false-raw (child_same (λ b j d. batch_leaf (join a.plan.now a.parts.now a.lengths.now a.places.now a.body.now a.first source) l.k b j d) l.k a.n l.counters (homes_same (join a.plan.now a.parts.now a.lengths.now a.places.now a.body.now a.first source) a.i a.slot a.homes.now c.requires.homed.0 (λ q. (c.shared_slice_known-5-1.given q).fits) c.requires.homed.1) (positions_same (join a.plan.now a.parts.now a.lengths.now a.places.now a.body.now a.first source) a.i a.slot c.requires.homed.2) (c.copy_child-g.ensures source)) c.if-g-ne0.false q2),
     )
+
+pub returns-then-last-k : goal.returns-then-last-k
+returns-then-last-k c =
+    let a = c.args in
+    let l = c.loop-t in
+    λ source. l.invariant.1 source 0 l.counters l.room (fields_end (join a.plan.now a.parts.now a.lengths.now a.places.now a.body.now a.first source) a.i a.slot a.n a.write l.counters l.room c.end_of-last.result (32 - l.t) l.k c.if-last-k.true)
+
+pub returns-then-next-k : goal.returns-then-next-k
+returns-then-next-k c =
+    let a = c.args in
+    let l = c.loop-t in
+    let y : 32 - l.t ≡ suc (32 - (l.t + 1)) = omega arith in
+    λ source. l.invariant.1 source 12 l.counters l.room (fields_turned (join a.plan.now a.parts.now a.lengths.now a.places.now a.body.now a.first source) a.i a.slot a.n a.write l.counters l.room c.end_of-last.result (32 - l.t) l.k y c.if-last-k.false c.end_of-next.ensures.value c.if-next-k.true)
+
+pub returns-then-not-is_owned : goal.returns-then-not-is_owned
+returns-then-not-is_owned c =
+    let a = c.args in
+    let l = c.loop-t in
+    let y : 32 - l.t ≡ suc (32 - (l.t + 1)) = omega arith in
+    λ source. l.invariant.1 source 12 l.counters l.room (fields_bare (join a.plan.now a.parts.now a.lengths.now a.places.now a.body.now a.first source) a.i a.slot a.n a.write l.counters l.room c.end_of-last.result (32 - l.t) l.k y c.if-last-k.false c.end_of-next.ensures.value c.if-next-k.false c.is_owned.ensures c.if-not-is_owned.true-raw)
 
 pub returns : goal.returns
 returns c =

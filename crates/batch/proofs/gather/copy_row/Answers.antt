@@ -18,26 +18,6 @@ room_for b to w m e h = let g = rw e at h in omega (arith, mul-one w)
 body_has : (b : Bool) (at w p len v : ℕ) → b ≡ true → v ≡ p → at + w * (cond b p 0 + cond b 1 0) ≤ len → at + w * v + w ≤ len
 body_has b at w p len v e f h = let g = rw e at h in rw f (omega (arith, mul-add w p 1, mul-one w))
 
-pub returns-then-home_at-k : goal.returns-then-home_at-k
-returns-then-home_at-k c =
-    let a = c.args in
-    let e : eqb (home_by a.homes.now a.body.now (a.ids + a.q)) a.k ≡ false = ne_eqb (home_by a.homes.now a.body.now (a.ids + a.q)) a.k (λ z. c.if-home_at-k.true (c.home_at.ensures ∙ z)) in
-    rw (e, mul-zero a.w) (record { value = refl; room_value = sym (splice_nil a.to a.room.now) })
-
-pub overflow_mul-from : goal.overflow_mul-from
-overflow_mul-from c =
-    let a = c.args in
-    let e : eqb (home_by a.homes.now a.body.now (a.ids + a.q)) a.k ≡ true = eq-eqb (home_by a.homes.now a.body.now (a.ids + a.q)) a.k (sym c.home_at.ensures ∙ c.if-home_at-k.false) in
-    let g = body_has (eqb (home_by a.homes.now a.body.now (a.ids + a.q)) a.k) a.at a.w (entry 4 a.body.now a.positions a.q) (length a.body.now) c.position_at-start.result e c.position_at-start.ensures c.requires.fact.1 in
-    omega arith
-
-pub overflow_add-from : goal.overflow_add-from
-overflow_add-from c =
-    let a = c.args in
-    let e : eqb (home_by a.homes.now a.body.now (a.ids + a.q)) a.k ≡ true = eq-eqb (home_by a.homes.now a.body.now (a.ids + a.q)) a.k (sym c.home_at.ensures ∙ c.if-home_at-k.false) in
-    let g = body_has (eqb (home_by a.homes.now a.body.now (a.ids + a.q)) a.k) a.at a.w (entry 4 a.body.now a.positions a.q) (length a.body.now) c.position_at-start.result e c.position_at-start.ensures c.requires.fact.1 in
-    omega arith
-
 pub copy_entry-requires : goal.copy_entry-requires
 copy_entry-requires c =
     let a = c.args in
@@ -45,8 +25,8 @@ copy_entry-requires c =
     let g = body_has (eqb (home_by a.homes.now a.body.now (a.ids + a.q)) a.k) a.at a.w (entry 4 a.body.now a.positions a.q) (length a.body.now) c.position_at-start.result e c.position_at-start.ensures c.requires.fact.1 in
     (room_for (eqb (home_by a.homes.now a.body.now (a.ids + a.q)) a.k) a.to a.w (length a.room.now) e c.requires.fact.0, g)
 
-pub returns : goal.returns
-returns c =
+pub returns-then-home_at-k : goal.returns-then-home_at-k
+returns-then-home_at-k c =
     let a = c.args in
-    let e : eqb (home_by a.homes.now a.body.now (a.ids + a.q)) a.k ≡ true = eq-eqb (home_by a.homes.now a.body.now (a.ids + a.q)) a.k (sym c.home_at.ensures ∙ c.if-home_at-k.false) in
-    rw (e, mul-one a.w) (record { value = refl; room_value = c.copy_entry.ensures ∙ ap (λ v. splice a.to (take a.w (drop (a.at + a.w * v) a.body.now)) a.room.now) c.position_at-start.ensures })
+    let e : eqb (home_by a.homes.now a.body.now (a.ids + a.q)) a.k ≡ false = ne_eqb (home_by a.homes.now a.body.now (a.ids + a.q)) a.k (λ z. c.if-home_at-k.true (c.home_at.ensures ∙ z)) in
+    rw (e, mul-zero a.w) (record { value = refl; room_value = sym (splice_nil a.to a.room.now) })

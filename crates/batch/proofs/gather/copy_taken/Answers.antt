@@ -20,14 +20,6 @@ copy_row-to-requires c =
     let p : ℕ → ℕ = λ q. entry 4 a.body.now a.positions (a.slot + q) in
     record { q_in_bounds = (omega arith, omega arith, omega arith); fact = (rw (l.invariant.0, l.auto.room) (taken_room a.w (takes_from h p a.k) (takes_of h a.k) a.body.now a.at a.n c.requires.n_in_bounds_2.1 l.r a.to (length a.room.now) (omega arith) c.requires.n_in_bounds_2.0), c.requires.n_in_bounds_2.1 l.r (omega arith)) }
 
-pub overflow_add-to : goal.overflow_add-to
-overflow_add-to c =
-    let a = c.args in
-    let l = c.loop-r in
-    let h : ℕ → ℕ = λ q. home_by a.homes.now a.body.now (a.ids + (a.slot + q)) in
-    let p : ℕ → ℕ = λ q. entry 4 a.body.now a.positions (a.slot + q) in
-    omega (arith, l.invariant.0, c.copy_row-to.ensures.value, taken_room a.w (takes_from h p a.k) (takes_of h a.k) a.body.now a.at a.n c.requires.n_in_bounds_2.1 l.r a.to (length a.room.now) (omega arith) c.requires.n_in_bounds_2.0)
-
 pub loop-r-preserved : goal.loop-r-preserved
 loop-r-preserved c =
     let a = c.args in
@@ -40,6 +32,14 @@ loop-r-preserved c =
           ∙ ap (λ (z : List ℕ). splice (a.to + a.w * sum_of (takes_of h a.k) l.r) (take (a.w * takes_of h a.k l.r) (drop (a.at + a.w * takes_from h p a.k l.r) a.body.now)) z) l.invariant.1
           ∙ taken_step a.w (takes_from h p a.k) (takes_of h a.k) a.body.now a.at a.n c.requires.n_in_bounds_2.1 l.r a.to a.room.now (omega arith) c.requires.n_in_bounds_2.0,
     )
+
+pub overflow_add-to : goal.overflow_add-to
+overflow_add-to c =
+    let a = c.args in
+    let l = c.loop-r in
+    let h : ℕ → ℕ = λ q. home_by a.homes.now a.body.now (a.ids + (a.slot + q)) in
+    let p : ℕ → ℕ = λ q. entry 4 a.body.now a.positions (a.slot + q) in
+    omega (arith, l.invariant.0, c.copy_row-to.ensures.value, taken_room a.w (takes_from h p a.k) (takes_of h a.k) a.body.now a.at a.n c.requires.n_in_bounds_2.1 l.r a.to (length a.room.now) (omega arith) c.requires.n_in_bounds_2.0)
 
 pub loop-r-init : goal.loop-r-init
 unfolding sum_of

@@ -13,16 +13,6 @@ use Rattle.batch.proofs.batch_walk.Loops.{advance_step}
 use Rattle.batch.proofs.batch_walk.Falls.{size_most}
 use Rattle.batch.proofs.homes.advance.Goals as goal
 
-pub returns-then-side-eq3 : goal.returns-then-side-eq3
-returns-then-side-eq3 c =
-    let a = c.args in
-    record { by_index = c.loop-r.invariant.1; next_le_n = (omega arith, omega arith); next_value = λ z. sym (rw (c.start_at-start.ensures, c.size_at-size.ensures) at c.side_of-side.ensures) ∙ c.if-side-eq3.true }
-
-pub next_size-p-requires : goal.next_size-p-requires
-next_size-p-requires c =
-    let s : c.size_at-size.result ≤ 1 = size_most (eqb (home_by c.args.homes.now c.args.body.now (c.args.ids + (c.args.slot + c.loop-r.r))) c.args.k) c.size_at-size.ensures in
-    omega arith
-
 pub loop-r-preserved : goal.loop-r-preserved
 loop-r-preserved c =
     let a = c.args in

@@ -12,22 +12,10 @@ use Rattle.batch.proofs.batch_walk.PlainLeaf.{plain_wide}
 use Rattle.batch.proofs.batch_walk.Tried.{tried}
 use Rattle.batch.proofs.list_view.copy_numbers.Goals as goal
 
-pub none_refused-requires : goal.none_refused-requires
-none_refused-requires c =
-    let a = c.args in
-    let p : is_plain a.plan.now (a.i + 1) ≡ true = rw (add-one a.i) c.requires.first_bound.3 in
-    record { first_bound = (c.requires.first_bound.0, c.requires.first_bound.1, c.requires.first_bound.2, (plain_wide a.plan.now (a.i + 1) c.width_at-v.ensures p).1); n_in_bounds = c.requires.n_in_bounds; w_value = c.requires.w_value }
-
 pub returns-then-none_refused : goal.returns-then-none_refused
 returns-then-none_refused c =
     let a = c.args in
     λ source. tried (join a.plan.now a.parts.now a.lengths.now a.places.now a.body.now a.first source) (suc a.i) c.requires.first_bound.3 (omega arith) (λ r. entry a.w a.body.now (place (join a.plan.now a.parts.now a.lengths.now a.places.now a.body.now a.first source) a.i 3) (a.slot + r)) (λ r. entry a.w a.body.now (place (join a.plan.now a.parts.now a.lengths.now a.places.now a.body.now a.first source) a.i 5) (a.slot + r)) a.n a.counters.now a.room.now a.write (rw (add-one a.i) at c.width_at-v.ensures) (c.none_refused.ensures a.plan.now a.parts.now source) c.if-none_refused.true c.requires.fact.1 (rw (add-one a.i) at c.add_rows.ensures)
-
-pub put_listed-requires : goal.put_listed-requires
-put_listed-requires c =
-    let a = c.args in
-    let p : is_plain a.plan.now (a.i + 1) ≡ true = rw (add-one a.i) c.requires.first_bound.3 in
-    record { first_bound = (c.requires.first_bound.0, c.requires.first_bound.1, c.width_at-v.ensures, p); n_in_bounds = (rw c.place-offsets.ensures c.requires.n_in_bounds.0, rw c.place-sizes.ensures c.requires.n_in_bounds.1, c.requires.first_bound.2); w_value = c.requires.w_value; total_value = rw c.place-sizes.ensures c.requires.fact.1 }
 
 pub returns-then-put_listed : goal.returns-then-put_listed
 returns-then-put_listed c =

@@ -17,29 +17,11 @@ use Rattle.batch.proofs.batch_walk.Node.{node_far, node_stop, node_done}
 use Rattle.batch.proofs.batch_walk.Nested.{listed_here, listed_child, listed_wide, child_deep, child_under, below_flat, below_nested, stretches_as, nested_mask, nested_data}
 use Rattle.batch.proofs.nested_views.+copy_stretches.Goals as goal
 
-pub copy_list_view-returns-then-t-ne0 : goal.copy_list_view-returns-then-t-ne0
-copy_list_view-returns-then-t-ne0 t c =
-    let a = c.args in
-    λ source. c.put_head-t.ensures.any_lengths c.if-t-ne0.true a.lengths.now source (batch_below (join a.plan.now a.parts.now a.lengths.now a.places.now a.body.now a.first source) a.depth)
-
-pub copy_list_view-copy_rows-requires : goal.copy_list_view-copy_rows-requires
-copy_list_view-copy_rows-requires t c =
-    let a = c.args in
-    let n = c.put_head-t.ensures.named c.if-t-ne0.false in
-    let p : is_flat a.plan.now (suc a.i) ≡ true = rw (add-one a.i) at (sym c.is_flat.ensures ∙ c.if-is_flat.true) in
-    record { first_bound = (c.requires.first_bound.0, omega (arith, c.requires.first_bound.1), c.requires.first_bound.2, p); n_in_bounds = (n.0, n.1); fact = (n.2, n.3); w_value = c.requires.w_value }
-
 pub copy_list_view-returns-then-is_flat : goal.copy_list_view-returns-then-is_flat
 copy_list_view-returns-then-is_flat t c =
     let a = c.args in
     let p : is_flat a.plan.now (suc a.i) ≡ true = rw (add-one a.i) at (sym c.is_flat.ensures ∙ c.if-is_flat.true) in
     λ source. c.put_head-t.ensures.any_lengths_2 c.if-t-ne0.false a.lengths.now source (batch_below (join a.plan.now a.parts.now a.lengths.now a.places.now a.body.now a.first source) a.depth) _ _ _ (stretches_as (join a.plan.now a.parts.now a.lengths.now a.places.now a.body.now a.first source) (λ b k d. batch_leaf (join a.plan.now a.parts.now a.lengths.now a.places.now a.body.now a.first source) (suc a.i) b k d) (λ b k d. batch_below (join a.plan.now a.parts.now a.lengths.now a.places.now a.body.now a.first source) a.depth (suc a.i) b k d) (below_flat (join a.plan.now a.parts.now a.lengths.now a.places.now a.body.now a.first source) a.depth (suc a.i) p) _ _ a.n a.counters.now (c.copy_rows.ensures source))
-
-pub copy_list_view-overflow_sub-depth : goal.copy_list_view-overflow_sub-depth
-copy_list_view-overflow_sub-depth t c =
-    let a = c.args in
-    let p : is_flat a.plan.now (suc a.i) ≡ false = rw (add-one a.i) at (sym c.is_flat.ensures ∙ c.if-is_flat.false) in
-    child_deep a.plan.now a.depth (suc a.i) c.requires.first_bound.3 p
 
 pub copy_list_view-copy_stretches-requires : goal.copy_list_view-copy_stretches-requires
 copy_list_view-copy_stretches-requires t c =
@@ -63,11 +45,6 @@ copy_node-returns-then-slot-ge-FAR t c =
     let a = c.args in
     λ source. node_far (join a.plan.now a.parts.now a.lengths.now a.places.now a.body.now a.first source) (batch_below (join a.plan.now a.parts.now a.lengths.now a.places.now a.body.now a.first source) a.depth) a.k (omega (arith, c.requires.1)) (nested_mask (join a.plan.now a.parts.now a.lengths.now a.places.now a.body.now a.first source) a.k (listed_here a.plan.now a.depth a.k c.requires.2) (batch_below (join a.plan.now a.parts.now a.lengths.now a.places.now a.body.now a.first source) a.depth)) a.a a.n a.write a.counters.now a.room.now (c.slot_of-slot.ensures a.plan.now a.parts.now a.places.now a.body.now source) c.if-slot-ge-FAR.true
 
-pub copy_node-copy_list_view-g-requires : goal.copy_node-copy_list_view-g-requires
-copy_node-copy_list_view-g-requires t c =
-    let a = c.args in
-    (omega (arith, c.decreases), ((c.requires.0, c.requires.1, slot_rows (join [] [] a.lengths.now [] [] a.first 0) a.k a.a a.n (c.slot_of-slot.ensures [] [] [] [] 0) c.if-slot-ge-FAR.false, listed_child a.plan.now a.depth a.k c.requires.2), listed_wide a.plan.now a.depth a.k c.requires.2 c.width_at-w.ensures))
-
 pub copy_node-returns-then-g-ne0 : goal.copy_node-returns-then-g-ne0
 copy_node-returns-then-g-ne0 t c =
     let a = c.args in
@@ -89,12 +66,6 @@ copy_stretches-loop-r-init t c =
       subst (λ v. v + a.w * (a.slot + a.n) ≤ length a.body.now) (sym c.place-sizes.ensures) c.requires.n_in_bounds.1,
       λ source. begins a.plan.now a.parts.now a.write (λ b k d. batch_node (join a.plan.now a.parts.now a.lengths.now a.places.now a.body.now a.first source) (batch_below (join a.plan.now a.parts.now a.lengths.now a.places.now a.body.now a.first source) a.depth) (suc a.i) b k d) a.w a.body.now a.slot a.n a.counters.now a.room.now c.place-offsets.ensures c.place-sizes.ensures,
     )
-
-pub copy_stretches-copy_node-g-requires : goal.copy_stretches-copy_node-g-requires
-copy_stretches-copy_node-g-requires t c =
-    let a = c.args in
-    let p : is_listed a.plan.now (suc a.depth) (a.i + 1) ≡ true = rw (add-one a.i) c.requires.first_bound.3 in
-    (omega (arith, c.decreases), (c.requires.first_bound.0, c.requires.first_bound.1, p))
 
 pub copy_stretches-returns-then-g-ne0 : goal.copy_stretches-returns-then-g-ne0
 copy_stretches-returns-then-g-ne0 t c =
@@ -127,3 +98,32 @@ copy_stretches-loop-r-preserved t c =
       l.invariant.5,
       λ source. loop_more (λ b k d. batch_node (join a.plan.now a.parts.now a.lengths.now a.places.now a.body.now a.first source) (batch_below (join a.plan.now a.parts.now a.lengths.now a.places.now a.body.now a.first source) a.depth) (suc a.i) b k d) s f a.n l.r l.a l.m l.counters l.room (l.invariant.6 source) c.advance-t.result.next c.advance-t.result.a c.advance-t.result.m (c.advance-t.ensures.by_index (λ b k d. batch_node (join a.plan.now a.parts.now a.lengths.now a.places.now a.body.now a.first source) (batch_below (join a.plan.now a.parts.now a.lengths.now a.places.now a.body.now a.first source) a.depth) (suc a.i) b k d) l.counters) c.advance-t.ensures.next_le_n.0 (rw (add-one a.i) at (c.copy_node-g.ensures source)) c.if-g-ne0.false c.if-t-n.false c.advance-t.ensures.next_value refl c.entry_at-a.ensures c.entry_at-m.ensures,
     )
+
+pub copy_list_view-overflow_sub-depth : goal.copy_list_view-overflow_sub-depth
+copy_list_view-overflow_sub-depth t c =
+    let a = c.args in
+    let p : is_flat a.plan.now (suc a.i) ≡ false = rw (add-one a.i) at (sym c.is_flat.ensures ∙ c.if-is_flat.false) in
+    child_deep a.plan.now a.depth (suc a.i) c.requires.first_bound.3 p
+
+pub copy_node-copy_list_view-g-requires : goal.copy_node-copy_list_view-g-requires
+copy_node-copy_list_view-g-requires t c =
+    let a = c.args in
+    (omega (arith, c.decreases), ((c.requires.0, c.requires.1, slot_rows (join [] [] a.lengths.now [] [] a.first 0) a.k a.a a.n (c.slot_of-slot.ensures [] [] [] [] 0) c.if-slot-ge-FAR.false, listed_child a.plan.now a.depth a.k c.requires.2), listed_wide a.plan.now a.depth a.k c.requires.2 c.width_at-w.ensures))
+
+pub copy_list_view-returns-then-t-ne0 : goal.copy_list_view-returns-then-t-ne0
+copy_list_view-returns-then-t-ne0 t c =
+    let a = c.args in
+    λ source. c.put_head-t.ensures.any_lengths c.if-t-ne0.true a.lengths.now source (batch_below (join a.plan.now a.parts.now a.lengths.now a.places.now a.body.now a.first source) a.depth)
+
+pub copy_list_view-copy_rows-requires : goal.copy_list_view-copy_rows-requires
+copy_list_view-copy_rows-requires t c =
+    let a = c.args in
+    let n = c.put_head-t.ensures.named c.if-t-ne0.false in
+    let p : is_flat a.plan.now (suc a.i) ≡ true = rw (add-one a.i) at (sym c.is_flat.ensures ∙ c.if-is_flat.true) in
+    record { first_bound = (c.requires.first_bound.0, omega (arith, c.requires.first_bound.1), c.requires.first_bound.2, p); n_in_bounds = (n.0, n.1); fact = (n.2, n.3); w_value = c.requires.w_value }
+
+pub copy_stretches-copy_node-g-requires : goal.copy_stretches-copy_node-g-requires
+copy_stretches-copy_node-g-requires t c =
+    let a = c.args in
+    let p : is_listed a.plan.now (suc a.depth) (a.i + 1) ≡ true = rw (add-one a.i) c.requires.first_bound.3 in
+    (omega (arith, c.decreases), (c.requires.first_bound.0, c.requires.first_bound.1, p))

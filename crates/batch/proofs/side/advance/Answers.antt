@@ -11,14 +11,6 @@ use Rattle.batch.proofs.batch_walk.Sums.{entry_in_lem, sum_more, sum_below}
 use Rattle.batch.proofs.batch_walk.Loops.{advance_step}
 use Rattle.batch.proofs.side.advance.Goals as goal
 
-pub next_size-k-requires : goal.next_size-k-requires
-next_size-k-requires c =
-    let a = c.args in
-    let l = c.loop-r in
-    let f : ℕ → ℕ = λ q. entry a.w a.body.now a.sizes (a.slot + q) in
-    let g : sum_of f (l.r + 1) ≡ sum_of f l.r + f l.r = sum_more f l.r in
-    omega (arith, g, sum_below f (l.r + 1) a.n (omega arith), c.entry_at-size.ensures, l.invariant.0, c.requires.m_bound.1)
-
 pub loop-r-preserved : goal.loop-r-preserved
 loop-r-preserved c =
     let a = c.args in
@@ -31,6 +23,14 @@ loop-r-preserved c =
       omega (arith, g, t, c.next_size-k.ensures, c.entry_at-size.ensures, l.invariant.0),
       λ walk e. l.invariant.1 walk e ∙ advance_step walk s f e (a.n - (l.r + 1)) l.r l.b l.k y c.entry_at-start.ensures c.entry_at-size.ensures c.side_of-side.ensures c.if-side-eq3.false c.next_start-b.ensures c.next_size-k.ensures refl,
     )
+
+pub next_size-k-requires : goal.next_size-k-requires
+next_size-k-requires c =
+    let a = c.args in
+    let l = c.loop-r in
+    let f : ℕ → ℕ = λ q. entry a.w a.body.now a.sizes (a.slot + q) in
+    let g : sum_of f (l.r + 1) ≡ sum_of f l.r + f l.r = sum_more f l.r in
+    omega (arith, g, sum_below f (l.r + 1) a.n (omega arith), c.entry_at-size.ensures, l.invariant.0, c.requires.m_bound.1)
 
 pub returns : goal.returns
 returns c = let e : c.loop-r.r ≡ c.args.n = omega arith in record { by_index = rw e at c.loop-r.invariant.1; next_le_n = (omega arith, omega arith); next_value = λ h. absurd (h (omega arith)) }

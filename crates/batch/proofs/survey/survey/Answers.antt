@@ -9,6 +9,18 @@ use Rattle.batch.specs.batch_walk.Fall.{home_by}
 use Rattle.batch.proofs.batch_walk.Falls.{land_more, land_homeless, land_over, land_fits, fall_none, fall_more, begin_most, grown_most}
 use Rattle.batch.proofs.survey.survey.Goals as goal
 
+pub loop-r-preserved : goal.loop-r-preserved
+loop-r-preserved c =
+    let a = c.args in
+    let l = c.loop-r in
+    let h : ℕ → ℕ = λ q. home_by a.homes.now a.body.now (a.ids + (a.slot + q)) in
+    let p : ℕ → ℕ = λ q. entry 4 a.body.now a.positions (a.slot + q) in
+    let few = c.if-k-ge32.false in
+    let t = l.invariant.1.counted c.home_at-k.result (omega arith) in (
+      land_more h a.counters.now l.r l.invariant.0 (subst (λ v. v < 32) c.home_at-k.ensures (omega arith)) (land_fits h a.counters.now l.r c.home_at-k.ensures t c.rows_of.ensures c.grow.ensures c.if-grow-ge2147483648.false),
+      fall_more h p a.n l.r l.whole l.begins l.taken l.ends l.invariant.1 (omega arith) c.home_at-k.ensures (omega arith) c.position_at-start.ensures (omega arith) refl c.begin_of-b.ensures c.still-whole.ensures c.max.ensures refl,
+    )
+
 pub loop-r-init : goal.loop-r-init
 loop-r-init c =
     let a = c.args in
@@ -36,18 +48,6 @@ pub overflow_add-taken : goal.overflow_add-taken
 overflow_add-taken c =
     let z = grown_most c.rows_of.result c.grow.ensures c.if-grow-ge2147483648.false in
     omega arith
-
-pub loop-r-preserved : goal.loop-r-preserved
-loop-r-preserved c =
-    let a = c.args in
-    let l = c.loop-r in
-    let h : ℕ → ℕ = λ q. home_by a.homes.now a.body.now (a.ids + (a.slot + q)) in
-    let p : ℕ → ℕ = λ q. entry 4 a.body.now a.positions (a.slot + q) in
-    let few = c.if-k-ge32.false in
-    let t = l.invariant.1.counted c.home_at-k.result (omega arith) in (
-      land_more h a.counters.now l.r l.invariant.0 (subst (λ v. v < 32) c.home_at-k.ensures (omega arith)) (land_fits h a.counters.now l.r c.home_at-k.ensures t c.rows_of.ensures c.grow.ensures c.if-grow-ge2147483648.false),
-      fall_more h p a.n l.r l.whole l.begins l.taken l.ends l.invariant.1 (omega arith) c.home_at-k.ensures (omega arith) c.position_at-start.ensures (omega arith) refl c.begin_of-b.ensures c.still-whole.ensures c.max.ensures refl,
-    )
 
 pub returns : goal.returns
 returns c =

@@ -25,12 +25,6 @@ loop-r-init g c =
       λ source. begins a.plan.now a.parts.now a.write (λ b k d. batch_leaf (join a.plan.now a.parts.now a.lengths.now a.places.now a.body.now a.first source) (suc a.i) b k d) a.w a.body.now a.slot a.n a.counters.now a.room.now c.place-offsets.ensures c.place-sizes.ensures,
     )
 
-pub copy_stretch-g-requires : goal.copy_stretch-g-requires
-copy_stretch-g-requires g c =
-    let a = c.args in
-    let p : g.C.FlatChild.holds a.plan.now (a.i + 1) ≡ true = rw (add-one a.i) c.requires.first_bound.3 in
-    (c.requires.first_bound.0, omega arith, c.width_at-v.ensures, p)
-
 pub returns-then-g-ne0 : goal.returns-then-g-ne0
 returns-then-g-ne0 g c =
     let a = c.args in

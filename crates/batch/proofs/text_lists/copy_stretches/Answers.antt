@@ -9,13 +9,6 @@ use Rattle.batch.proofs.batch_walk.ListTried.{told_did}
 use Rattle.batch.proofs.batch_walk.TextPuts.{told_ok}
 use Rattle.batch.proofs.text_lists.copy_stretches.Goals as goal
 
-pub list_tried-t-requires : goal.list_tried-t-requires
-list_tried-t-requires c =
-    let a = c.args in
-    let p = c.requires in
-    let text = subst (λ y. is_text a.plan.now y ≡ true) (sym (add-one a.i)) p.first_bound.3 in
-    record { first_bound = (p.first_bound.0, p.first_bound.1, c.width_at-v.ensures, text); n_in_bounds = (omega (arith, c.place-offsets.ensures, p.n_in_bounds.0), omega (arith, c.place-sizes.ensures, p.n_in_bounds.1), p.first_bound.2); w_value = p.w_value }
-
 pub returns-then-not-write : goal.returns-then-not-write
 returns-then-not-write c =
     let a = c.args in

@@ -9,9 +9,6 @@ use Rattle.batch.proofs.batch_walk.Sums.{entry_in_lem, grown_none, grown_more}
 use Rattle.batch.proofs.batch_walk.TextRows.{row_in, rows_more, not_top}
 use Rattle.batch.proofs.text_rows.list_chars.Goals as goal
 
-pub chars_of-d-requires : goal.chars_of-d-requires
-chars_of-d-requires c = let a = c.args in let h : c.entry_at-a.result + c.entry_at-m.result ≤ a.end = omega (arith, c.requires.end_in_bounds.2 c.loop-r.r (omega arith), c.entry_at-a.ensures, c.entry_at-m.ensures) in record { m_in_bounds = (row_in a.at a.v a.offset c.entry_at-a.result c.entry_at-m.result a.end (length a.body.now) h c.requires.end_in_bounds.0, omega (arith, c.requires.end_in_bounds.1)); w_value = c.requires.v_value }
-
 pub loop-r-preserved : goal.loop-r-preserved
 loop-r-preserved c = let a = c.args in let l = c.loop-r in let ens = c.chars_of-d.ensures c.if-d.false in let e1 = c.entry_at-a.ensures in let e2 = c.entry_at-m.ensures in (rows_more (λ q. Rising a.v a.body.now a.at a.most (a.offset + entry a.w a.body.now a.offsets (a.slot + q)) (entry a.w a.body.now a.sizes (a.slot + q))) l.r l.invariant.0 (subst (λ z. Rising a.v a.body.now a.at a.most (a.offset + z) (entry a.w a.body.now a.sizes (a.slot + l.r))) e1 (subst (λ z. Rising a.v a.body.now a.at a.most (a.offset + c.entry_at-a.result) z) e2 ens.0)), grown_more (λ q. chars_of a.v a.body.now a.at (a.offset + entry a.w a.body.now a.offsets (a.slot + q)) (entry a.w a.body.now a.sizes (a.slot + q))) 0 l.r l.invariant.1 (ens.1 ∙ ap (λ z. chars_of a.v a.body.now a.at (a.offset + z) c.entry_at-m.result) e1 ∙ ap (λ z. chars_of a.v a.body.now a.at (a.offset + entry a.w a.body.now a.offsets (a.slot + l.r)) z) e2) c.grow-sum.ensures)
 

@@ -10,11 +10,6 @@ put_string-requires c =
     let b = fits_is a.w a.body.now a.from a.n c.bytes_of-last.result c.try_offsets.ensures c.in-Fits.is in
     record { first_bound = (c.requires.first_bound.0, c.requires.first_bound.1, c.requires.first_bound.2, omega (arith, c.bytes_of-last.ensures, b.0), omega (arith, b.1, largest_in a.w c.requires.w_value)); w_value = c.requires.w_value }
 
-pub returns-in-Fits : goal.returns-in-Fits
-returns-in-Fits c =
-    let a = c.args in
-    λ lengths source. extended_fits (join a.plan.now a.parts.now lengths a.places.now a.body.now a.first source) a.k a.write a.counters.now a.room.now a.w a.from a.n c.bytes_of-last.ensures c.try_offsets.ensures c.in-Fits.is (c.put_string.ensures lengths source)
-
 pub returns-in-Over : goal.returns-in-Over
 returns-in-Over c =
     let a = c.args in

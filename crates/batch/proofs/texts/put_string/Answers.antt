@@ -12,21 +12,6 @@ returns-then-not-bytes_in c =
     let a = c.args in
     λ lengths source. string_no (join a.plan.now a.parts.now lengths a.places.now a.body.now a.first source) a.k a.write a.counters.now a.room.now a.w a.from a.n a.last a.lead c.place-at.ensures c.bytes_of-old.ensures c.bytes_in.ensures c.if-not-bytes_in.true-raw
 
-pub scale-o-requires : goal.scale-o-requires
-scale-o-requires c =
-    let a = c.args in
-    width_in_lem a.w (λ p q. c.requires.w_value)
-
-pub overflow_add-begin : goal.overflow_add-begin
-overflow_add-begin c =
-    let a = c.args in
-    omega (arith, bytes_in_lem (length a.body.now) c.place-at.result a.lead (a.last - c.bytes_of-old.result) c.bytes_in.ensures c.if-not-bytes_in.false-raw, c.well_formed)
-
-pub put_chars-requires : goal.put_chars-requires
-put_chars-requires c =
-    let a = c.args in
-    (c.requires.first_bound.1, bytes_in_lem (length a.body.now) c.place-at.result a.lead (a.last - c.bytes_of-old.result) c.bytes_in.ensures c.if-not-bytes_in.false-raw)
-
 pub returns : goal.returns
 returns c =
     let a = c.args in
