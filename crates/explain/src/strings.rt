@@ -22,9 +22,9 @@ fn offsets(body: &[u8], from: usize, w: u64, n: usize, last: u64) -> Extended
     ensures { result ≡ extended w (was body) from n last }
 {
     if w == 4 {
-        return utils::try_offsets_i32(body, from, n, last);
+        return utils::try_offsets::<u32>(body, from, n, last);
     }
-    utils::try_offsets_i64(body, from, n, last)
+    utils::try_offsets::<u64>(body, from, n, last)
 }
 
 // 0 where n bytes from the byte `lead` of the data at `at` on lie in the body, and else 12.

@@ -6,7 +6,7 @@ pub mod byte_view;
 pub mod primitive;
 
 ghost use Rattle.std.specs.Prelude.{◌≡◌, ◌+◌, ◌-◌, ◌*◌, ◌/◌, ◌<◌, ◌≤◌, min, length};
-ghost use Rattle.number.specs.Number.{splice};
+ghost use Rattle.number.specs.Number.{entry, splice};
 ghost use Rattle.utils.specs.Offsets.{largest, moved, first_above, moved_offsets, repeated, counted_up};
 ghost use Rattle.utils.specs.Extension.{extended, over_at};
 
@@ -44,24 +44,30 @@ fn moved_to(last: u64, first: u64, o: u64) -> u64
     last.saturating_add(o.saturating_sub(first))
 }
 
+// Offset k of those at `from`.
+fn offset<N: Unsigned>(body: &[u8], from: usize, k: usize) -> u64
+    requires { from + N.SIZE * (k + 1) ≤ length body.now }
+    ensures { result ≡ entry N.SIZE body.now from k }
+{
+    N::read(body, from + N::SIZE * k).to_u64()
+}
+
 // The first row whose new offset does not fit, where the last row's does not.
 fn over<N: Unsigned>(body: &[u8], from: usize, n: usize, last: u64) -> Extended
     requires n_in_bounds { from + N.SIZE * (n + 1) ≤ length body.now }
     requires last_bound { (last ≤ largest N.SIZE) × (largest N.SIZE < moved N.SIZE body.now from last n) }
     ensures { result ≡ over_at N.SIZE body.now from n last }
 {
-    let first = N::read(body, from).to_u64();
+    let first = offset::<N>(body, from, 0);
     for row in 0..n - 1 {
-        let o = N::read(body, from + N::SIZE * (row + 1)).to_u64();
-        let needed = moved_to(last, first, o);
+        let needed = moved_to(last, first, offset::<N>(body, from, row + 1));
         if largest_offset::<N>() < needed {
             return Extended::Over { row, needed };
         }
     }
-    let end = N::read(body, from + N::SIZE * n).to_u64();
     Extended::Over {
         row: n - 1,
-        needed: moved_to(last, first, end),
+        needed: moved_to(last, first, offset::<N>(body, from, n)),
     }
 }
 
@@ -70,8 +76,8 @@ pub fn try_offsets<N: Unsigned>(body: &[u8], from: usize, n: usize, last: u64) -
     requires { from + N.SIZE * (n + 1) ≤ length body.now }
     ensures { result ≡ extended N.SIZE body.now from n last }
 {
-    let first = N::read(body, from).to_u64();
-    let end = N::read(body, from + N::SIZE * n).to_u64();
+    let first = offset::<N>(body, from, 0);
+    let end = offset::<N>(body, from, n);
     if end < first || largest_offset::<N>() < last {
         return Extended::Falls;
     }
