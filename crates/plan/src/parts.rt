@@ -10,9 +10,9 @@ use walk::plan_words;
 
 // The node and the buffer of a part; buffer 0 is the validity.
 #[derive(Clone, Copy)]
-pub enum Spot {
-    Of { node: usize, buffer: usize },
-    Nothing,
+pub struct Spot {
+    pub node: usize,
+    pub buffer: usize,
 }
 // How many buffers have a part by code, from code 0 on.
 const BUFFERS: [u8; 24] = [
@@ -149,8 +149,8 @@ pub fn part_word(plan: &[u64], i: usize) -> u64
     (parts_before(plan, i) + validity_parts(plan, i)) as u64
 }
 
-// The node and the buffer of part p.
-pub fn part_at(plan: &[u64], p: usize) -> Spot
+// The node and the buffer of part p, if there is one.
+pub fn part_at(plan: &[u64], p: usize) -> Option<Spot>
     ensures { result ≡ part_at (was plan) p }
 {
     let n = node_count(plan);
@@ -158,14 +158,14 @@ pub fn part_at(plan: &[u64], p: usize) -> Spot
     for i in 0..n {
         let count = part_count(plan, i);
         if left < count {
-            return Spot::Of {
+            return Some(Spot {
                 node: i,
                 buffer: left + 1 - validity_parts(plan, i),
-            };
+            });
         }
         left -= count;
     }
-    Spot::Nothing
+    None
 }
 
 // The part of buffer b of node i, by the plan.

@@ -12,8 +12,8 @@ use borrow.Author.Tests.{lt-ltb, le-ltb, le-leb, lt-leb, leb-true, leb-false}
 use Rattle.columnar.specs.Test.{every}
 use Rattle.array_data.proofs.lent_tables.Laws.{fits_more, and_left, and_right}
 use Rattle.walk.specs.State.{word, code_of, dictionary_of, keeps_of, rows, bytes}
-use Rattle.plan.specs.parts.Parts.{buffer_counts, buffer_count, copied, validity_parts, buffer_parts, part_count, has_part, parts_before, part_from, number_of, needed_by, needed, start_at, size_at, size_of, in_room, apart, part_within}
-use Rattle.plan.specs.declared.parts.Spot.TheVariants.{Of, Nothing}
+use Rattle.plan.specs.parts.Parts.{spot, buffer_counts, buffer_count, copied, validity_parts, buffer_parts, part_count, has_part, parts_before, part_from, number_of, needed_by, needed, start_at, size_at, size_of, in_room, apart, part_within}
+use Rattle.std.specs.Prelude.{Some, None}
 
 -- ---- a loop that leaves at the first that fails
 
@@ -95,7 +95,7 @@ module _ (plan : List ℕ) where
 
   -- ---- the node and the buffer of a part, n nodes of which i are passed
 
-  pub at_here : (n i p v : ℕ) → i < n → p < part_count plan i → v ≡ validity_parts plan i → Of i (p + 1 - v) ≡ part_from plan (n - i) i p
+  pub at_here : (n i p v : ℕ) → i < n → p < part_count plan i → v ≡ validity_parts plan i → Some (spot i (p + 1 - v)) ≡ part_from plan (n - i) i p
   unfolding part_from
   at_here n i p v l h e =
       let k : n - i ≡ suc (n - (i + 1)) = omega arith in
@@ -107,7 +107,7 @@ module _ (plan : List ℕ) where
       let k : n - i ≡ suc (n - (i + 1)) = omega arith in
       rw (k, e, le-ltb p (part_count plan i) (omega arith), add-one i)
 
-  pub at_end : (n i p : ℕ) → n ≤ i → part_from plan (n - i) i p ≡ Nothing
+  pub at_end : (n i p : ℕ) → n ≤ i → part_from plan (n - i) i p ≡ None
   unfolding part_from
   at_end n i p l = let k : n - i ≡ 0 = omega arith in rw k
 

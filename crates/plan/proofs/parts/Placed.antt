@@ -14,8 +14,10 @@ use Rattle.columnar.specs.Test.{every, only_if}
 use Rattle.array_data.proofs.lent_tables.Laws.{and_left, and_right}
 use Rattle.walk.specs.State.{rows}
 use Rattle.walk.specs.Log.{start_of}
-use Rattle.plan.specs.parts.Parts.{nodes_of, validity_parts, buffer_parts, part_count, has_part, parts_before, part_total, number_of, part_from, part_at, needed, start_at, size_at, size_of, in_room, apart, Apart, before, behind, first_empty, second_empty, part_holds, parts_hold, parts_placed, part_within, parts_within, Used, Numbered, Named}
-use Rattle.plan.specs.declared.parts.Spot.TheVariants.{Of, Nothing}
+use Rattle.plan.specs.parts.Parts.{spot, nodes_of, validity_parts, buffer_parts, part_count, has_part, parts_before, part_total, number_of, part_from, part_at, needed, start_at, size_at, size_of, in_room, apart, Apart, before, behind, first_empty, second_empty, part_holds, parts_hold, parts_placed, part_within, parts_within, Used, Numbered, Named}
+use Rattle.std.specs.Prelude.{Some, None}
+use Rattle.std.proofs.lemmas.Option.{same_Some}
+use Rattle.plan.specs.declared.parts.Spot.{Spot}
 use Rattle.plan.proofs.parts.Laws.{few_bits, few_parts, at_here, at_later, at_end}
 
 pub every_at : (p : ℕ → Bool) (n : ℕ) → every p n ≡ true → (i : ℕ) → i < n → p i ≡ true
@@ -93,7 +95,7 @@ module _ (plan : List ℕ) where
       ∙ (rw (add-one i) at (at_later plan n i (p - parts_before plan i) (part_count plan i) (omega arith) refl (omega arith))))
 
   -- "how many parts there are": no other number is a part's
-  pub part_none : (p : ℕ) → part_total plan ≤ p → part_at plan p ≡ Nothing
+  pub part_none : (p : ℕ) → part_total plan ≤ p → part_at plan p ≡ None
   part_none p h = passed (nodes_of plan) p (nodes_of plan) (omega arith) h ∙ at_end plan (nodes_of plan) (nodes_of plan) _ (omega arith)
 
   module _ (n : Numbered plan) where
@@ -109,7 +111,7 @@ module _ (plan : List ℕ) where
         omega arith
 
     -- A PART IS ANSWERED WITH ITS NODE AND ITS BUFFER
-    pub part_named : {i b : ℕ} → Used plan i b → part_at plan (number_of plan i b) ≡ Of i b
+    pub part_named : {i b : ℕ} → Used plan i b → part_at plan (number_of plan i b) ≡ Some (spot i b)
     part_named {i} {b} u =
         let e = number_is u in
         let s = slot i b u.part in
@@ -117,11 +119,11 @@ module _ (plan : List ℕ) where
         let f : p - parts_before plan i + 1 - validity_parts plan i ≡ b = omega arith in
         passed (nodes_of plan) p i (omega arith) (omega arith)
         ∙ sym (at_here plan (nodes_of plan) i (p - parts_before plan i) (validity_parts plan i) u.node (omega arith) refl)
-        ∙ ap (Of i) f
+        ∙ ap (λ k. Some (spot i k)) f
 
     -- TWO BUFFERS HAVE TWO NUMBERS
     pub number_distinct : {i b j e : ℕ} → Used plan i b → Used plan j e → number_of plan i b ≡ number_of plan j e → (i ≡ j) × (b ≡ e)
-    number_distinct {i} {b} {j} {e} u v q = let h : Of i b ≡ Of j e = sym (part_named u) ∙ ap (part_at plan) q ∙ part_named v in (cc, cc)
+    number_distinct {i} {b} {j} {e} u v q = let h : Some (spot i b) ≡ Some (spot j e) = sym (part_named u) ∙ ap (part_at plan) q ∙ part_named v in let s : spot i b ≡ spot j e = same_Some _ _ h in (ap (λ (x : Spot). x.node) s, ap (λ (x : Spot). x.buffer) s)
 
     -- EVERY NUMBER BELOW THE TOTAL IS A PART'S
     pub number_named : (p : ℕ) → p < part_total plan → Named plan p

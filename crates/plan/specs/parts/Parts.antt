@@ -1,12 +1,11 @@
 -- The parts of a destination in the lent room: which there are, what each must hold, and when they lie well (01, "Column types and
 -- ceilings" and grounds 13 and 14). Assumes nothing.
-use Rattle.std.specs.Prelude.{◌≡◌, Bool, true, not, cond, ◌&&◌, ◌||◌, List, [], ◌∷◌, ℕ, zero, suc, ◌+◌, ◌*◌, ◌-◌, ◌/◌, ◌≤◌, ◌<◌, min, length, get_or, leb, ltb, eqb}
+use Rattle.std.specs.Prelude.{Option, Some, None, ◌≡◌, Bool, true, not, cond, ◌&&◌, ◌||◌, List, [], ◌∷◌, ℕ, zero, suc, ◌+◌, ◌*◌, ◌-◌, ◌/◌, ◌≤◌, ◌<◌, min, length, get_or, leb, ltb, eqb}
 use Rattle.columnar.specs.Row.{sum}
 use Rattle.columnar.specs.Test.{every, only_if}
 use Rattle.schema.specs.formats.Code.{is_string, is_view, is_list_view, is_list, is_union, width_of}
 use Rattle.walk.specs.State.{word, code_of, dictionary_of, keeps_of, part_of, rows, bytes}
 use Rattle.plan.specs.declared.parts.Spot.{Spot}
-use Rattle.plan.specs.declared.parts.Spot.TheVariants.{Of, Nothing}
 
 -- ---- which parts there are
 
@@ -23,6 +22,10 @@ buffer_counts =
 
 abbrev pub buffer_count : ℕ → ℕ
 buffer_count code = get_or buffer_counts code 0
+
+-- buffer b of node i
+abbrev pub spot : ℕ → ℕ → Spot
+spot i b = record { node = i; buffer = b }
 
 module _ (plan : List ℕ) where
   -- "a kept dictionary [is] not copied and ha[s] no part"; "A joined dictionary has parts": its values are the node behind its keys
@@ -63,11 +66,11 @@ module _ (plan : List ℕ) where
   number_of i b = part_of plan i + b - 1
 
   -- the node and the buffer of part p: p is the first part of node i if it is 0 there
-  unfoldable pub part_from : ℕ → ℕ → ℕ → Spot
-  part_from zero i p = Nothing
-  part_from (suc n) i p = cond (ltb p (part_count i)) (Of i (p + 1 - validity_parts i)) (part_from n (suc i) (p - part_count i))
+  unfoldable pub part_from : ℕ → ℕ → ℕ → Option Spot
+  part_from zero i p = None
+  part_from (suc n) i p = cond (ltb p (part_count i)) (Some (spot i (p + 1 - validity_parts i))) (part_from n (suc i) (p - part_count i))
 
-  abbrev pub part_at : ℕ → Spot
+  abbrev pub part_at : ℕ → Option Spot
   part_at p = part_from (nodes_of plan) 0 p
 
 -- ---- what each must hold
@@ -166,4 +169,4 @@ pub record Named (plan : List ℕ) (p : ℕ) : Type 0 where
   pub buffer : ℕ
   pub used : Used plan node buffer
   pub number : number_of plan node buffer ≡ p
-  pub answer : part_at plan p ≡ Of node buffer
+  pub answer : part_at plan p ≡ Some (spot node buffer)

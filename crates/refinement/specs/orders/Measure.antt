@@ -6,7 +6,7 @@ use Rattle.walk.specs.Copy.{copy_walk}
 use Rattle.walk.specs.Nulls.{null_walk}
 use Rattle.plan.specs.parts.Parts.{part_at, needed}
 use Rattle.plan.specs.declared.parts.Spot.{Spot}
-use Rattle.plan.specs.declared.parts.Spot.TheVariants.{Of, Nothing}
+use Rattle.std.specs.Prelude.{Option, Some, None}
 use Rattle.refinement.specs.orders.Sound.{plan_sound}
 use Rattle.refinement.specs.orders.Order.{Lent, join_of, source_count, source_length}
 
@@ -47,9 +47,9 @@ module _ (counters : List ℕ) where
 
 -- ---- the bytes that a part must hold, by the counters: 0 where there is no such part
 
-abbrev pub needed_in : List ℕ → List ℕ → Spot → ℕ
-needed_in plan counters (Of i b) = needed plan counters i b
-needed_in plan counters Nothing = 0
+abbrev pub needed_in : List ℕ → List ℕ → Option Spot → ℕ
+needed_in plan counters (Some s) = needed plan counters s.node s.buffer
+needed_in plan counters None = 0
 
 -- the largest number of 64 bits where there are more: no part holds as many
 unfoldable pub needed_bytes : List ℕ → List ℕ → ℕ → ℕ
