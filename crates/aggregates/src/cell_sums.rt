@@ -1,6 +1,6 @@
 // Tallies of the rows of one whole-number column, and of two at once.
 
-ghost use Rattle.std.specs.Prelude.{◌≡◌, ◌+◌, ◌-◌, ◌*◌, ◌^◌, ◌<◌, ◌≤◌, min, false, if◌then◌else◌, nat_lt};
+ghost use Rattle.std.specs.Prelude.{◌≡◌, ◌+◌, ◌-◌, ◌*◌, ◌^◌, ◌<◌, ◌≤◌, false, if◌then◌else◌, nat_lt};
 ghost use Rattle.clauses.specs.Slices.{was};
 ghost use Rattle.aggregates.specs.patterns.Parts.{block_rows};
 ghost use Rattle.aggregates.specs.tally.Cells.{Tallied};
@@ -117,12 +117,6 @@ fn masked(c: Cell, d: Cell) -> Cell
     c
 }
 
-fn lesser(a: u64, b: u64) -> u64
-    ensures { result ≡ min a b }
-{
-    if a < b { a } else { b }
-}
-
 // ---- plain rows
 
 // The rows row .. stop - 1, at most a block of them, of a column without validity.
@@ -144,7 +138,7 @@ fn sum_blocks(body: &[u8], a: Numbers, start: u64, end: u64) -> Tally
     let mut t = tally::nothing();
     let mut row = start;
     while row < end {
-        let stop = lesser(row + patterns::BLOCK, end);
+        let stop = (row + patterns::BLOCK).min(end);
         t = tally::joined(t, sum_block(body, a, row, stop));
         row = stop;
     }
@@ -234,7 +228,7 @@ fn sum_stretches(body: &[u8], n: Numbers, start: u64, end: u64) -> Tally
     while row < end {
         let s = find_stretch(body, n, row);
         let c = s.cell;
-        let stop = lesser(s.until, end);
+        let stop = s.until.min(end);
         t = tally::added(t, c, stop - row);
         row = stop;
     }
@@ -271,7 +265,7 @@ fn sum_both_stretches(body: &[u8], a: Numbers, b: Numbers, start: u64, end: u64)
         q = next_stretch(body, b, q, row);
         let c = p.cell;
         let d = q.cell;
-        let stop = lesser(lesser(p.until, q.until), end);
+        let stop = p.until.min(q.until).min(end);
         t = tally::added(t, masked(c, d), stop - row);
         u = tally::added(u, masked(d, c), stop - row);
         row = stop;

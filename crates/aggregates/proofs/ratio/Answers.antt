@@ -27,14 +27,14 @@ flip false false e = sym e
 kept : (c : Else-q-eq0) → let x = tables_of c.args.lengths.now c.args.places.now c.args.buffers.now c.args.body.now in
     (pair_of c.args.formats.now c.args.schema.now x c.args.first_a c.args.n_a c.args.first_b c.args.n_b ≡ 0)
     × (
-      (column_ground c.args.formats.now c.args.schema.now x c.args.first_a c.args.n_a ≡ 0)
-      × (range_in x c.args.first_a c.args.start c.args.end ≡ true)
-      × (whole_type (type_of c.args.formats.now c.args.schema.now c.args.first_a c.args.n_a) ≡ true)
+    (column_ground c.args.formats.now c.args.schema.now x c.args.first_a c.args.n_a ≡ 0)
+    × (range_in x c.args.first_a c.args.start c.args.end ≡ true)
+    × (whole_type (type_of c.args.formats.now c.args.schema.now c.args.first_a c.args.n_a) ≡ true)
     )
     × (
-      (column_ground c.args.formats.now c.args.schema.now x c.args.first_b c.args.n_b ≡ 0)
-      × (range_in x c.args.first_b c.args.start c.args.end ≡ true)
-      × (whole_type (type_of c.args.formats.now c.args.schema.now c.args.first_b c.args.n_b) ≡ true)
+    (column_ground c.args.formats.now c.args.schema.now x c.args.first_b c.args.n_b ≡ 0)
+    × (range_in x c.args.first_b c.args.start c.args.end ≡ true)
+    × (whole_type (type_of c.args.formats.now c.args.schema.now c.args.first_b c.args.n_b) ≡ true)
     )
     × ((j : ℕ) → get_or c.args.body.now j 0 < 256)
 kept c =

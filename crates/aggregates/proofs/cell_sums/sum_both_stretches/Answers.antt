@@ -33,30 +33,30 @@ pub masked-requires : goal.masked-requires
 masked-requires c = c.next_stretch-p.ensures.1.bounded
 
 pub overflow_sub-stop : goal.overflow_sub-stop
-overflow_sub-stop c = in_order_lem _ _ ((let fact : c.loop-row.row < c.lesser-stop.result = least_above _ _ _ _ _ _ c.lesser.ensures c.lesser-stop.ensures c.next_stretch-p.ensures.0 c.next_stretch-q.ensures.0 c.loop-row-test.true in fact))
+overflow_sub-stop c = in_order_lem _ _ ((let fact : c.loop-row.row < c.min-stop.result = least_above _ _ _ _ _ _ c.min.ensures c.min-stop.ensures c.next_stretch-p.ensures.0 c.next_stretch-q.ensures.0 c.loop-row-test.true in fact))
 
 pub added-t-requires : goal.added-t-requires
 added-t-requires c =
     let l = c.loop-row in
-    record { count_bound = room_of _ c.masked.ensures.1; n_bound = room _ c.args.start l.row _ _ l.invariant.2 (stop_low _ _ _ ((let fact : c.loop-row.row < c.lesser-stop.result = least_above _ _ _ _ _ _ c.lesser.ensures c.lesser-stop.ensures c.next_stretch-p.ensures.0 c.next_stretch-q.ensures.0 c.loop-row-test.true in fact)) (least_end l.row _ _ _ _ _ c.lesser.ensures c.lesser-stop.ensures) c.requires.start_le_end.1) }
+    record { count_bound = room_of _ c.masked.ensures.1; n_bound = room _ c.args.start l.row _ _ l.invariant.2 (stop_low _ _ _ ((let fact : c.loop-row.row < c.min-stop.result = least_above _ _ _ _ _ _ c.min.ensures c.min-stop.ensures c.next_stretch-p.ensures.0 c.next_stretch-q.ensures.0 c.loop-row-test.true in fact)) (least_end l.row _ _ _ _ _ c.min.ensures c.min-stop.ensures) c.requires.start_le_end.1) }
 
 pub masked-requires-in-loop-row : goal.masked-requires-in-loop-row
 masked-requires-in-loop-row c = c.next_stretch-q.ensures.1.bounded
 
 pub overflow_sub-stop-in-loop-row : goal.overflow_sub-stop-in-loop-row
-overflow_sub-stop-in-loop-row c = in_order_lem _ _ ((let fact : c.loop-row.row < c.lesser-stop.result = least_above _ _ _ _ _ _ c.lesser.ensures c.lesser-stop.ensures c.next_stretch-p.ensures.0 c.next_stretch-q.ensures.0 c.loop-row-test.true in fact))
+overflow_sub-stop-in-loop-row c = in_order_lem _ _ ((let fact : c.loop-row.row < c.min-stop.result = least_above _ _ _ _ _ _ c.min.ensures c.min-stop.ensures c.next_stretch-p.ensures.0 c.next_stretch-q.ensures.0 c.loop-row-test.true in fact))
 
 pub added-u-requires : goal.added-u-requires
 added-u-requires c =
     let l = c.loop-row in
-    record { count_bound = room_of _ c.masked-in-loop-row.ensures.1; n_bound = room _ c.args.start l.row _ _ l.invariant.3 (stop_low _ _ _ ((let fact : c.loop-row.row < c.lesser-stop.result = least_above _ _ _ _ _ _ c.lesser.ensures c.lesser-stop.ensures c.next_stretch-p.ensures.0 c.next_stretch-q.ensures.0 c.loop-row-test.true in fact)) (least_end l.row _ _ _ _ _ c.lesser.ensures c.lesser-stop.ensures) c.requires.start_le_end.1) }
+    record { count_bound = room_of _ c.masked-in-loop-row.ensures.1; n_bound = room _ c.args.start l.row _ _ l.invariant.3 (stop_low _ _ _ ((let fact : c.loop-row.row < c.min-stop.result = least_above _ _ _ _ _ _ c.min.ensures c.min-stop.ensures c.next_stretch-p.ensures.0 c.next_stretch-q.ensures.0 c.loop-row-test.true in fact)) (least_end l.row _ _ _ _ _ c.min.ensures c.min-stop.ensures) c.requires.start_le_end.1) }
 
 pub loop-row-smaller : goal.loop-row-smaller
 loop-row-smaller c =
     let l = c.loop-row in
     let p = c.next_stretch-p.ensures in
     let q = c.next_stretch-q.ensures in
-    fewer_of_both (until_of c.args.body.now c.args.a) (until_of c.args.body.now c.args.b) c.args.end l.row _ l.p.until l.q.until _ _ _ c.loop-row-test.true l.invariant.6 l.invariant.7 p.0 q.0 p.2 q.2 c.lesser.ensures c.lesser-stop.ensures
+    fewer_of_both (until_of c.args.body.now c.args.a) (until_of c.args.body.now c.args.b) c.args.end l.row _ l.p.until l.q.until _ _ _ c.loop-row-test.true l.invariant.6 l.invariant.7 p.0 q.0 p.2 q.2 c.min.ensures c.min-stop.ensures
 
 pub loop-row-preserved : goal.loop-row-preserved
 loop-row-preserved c =
@@ -65,11 +65,11 @@ loop-row-preserved c =
     let q = c.next_stretch-q in
     let m = c.masked.ensures in
     let k = c.masked-in-loop-row.ensures in
-    let one = least_first l.row _ _ _ _ _ c.lesser.ensures c.lesser-stop.ensures in
-    let two = least_second l.row _ _ _ _ _ c.lesser.ensures c.lesser-stop.ensures in
-    let far = in_order_lem _ _ ((let fact : c.loop-row.row < c.lesser-stop.result = least_above _ _ _ _ _ _ c.lesser.ensures c.lesser-stop.ensures c.next_stretch-p.ensures.0 c.next_stretch-q.ensures.0 c.loop-row-test.true in fact)) in (
-      further _ _ _ l.invariant.0 ((let fact : c.loop-row.row < c.lesser-stop.result = least_above _ _ _ _ _ _ c.lesser.ensures c.lesser-stop.ensures c.next_stretch-p.ensures.0 c.next_stretch-q.ensures.0 c.loop-row-test.true in fact)),
-      least_end l.row _ _ _ _ _ c.lesser.ensures c.lesser-stop.ensures,
+    let one = least_first l.row _ _ _ _ _ c.min.ensures c.min-stop.ensures in
+    let two = least_second l.row _ _ _ _ _ c.min.ensures c.min-stop.ensures in
+    let far = in_order_lem _ _ ((let fact : c.loop-row.row < c.min-stop.result = least_above _ _ _ _ _ _ c.min.ensures c.min-stop.ensures c.next_stretch-p.ensures.0 c.next_stretch-q.ensures.0 c.loop-row-test.true in fact)) in (
+      further _ _ _ l.invariant.0 ((let fact : c.loop-row.row < c.min-stop.result = least_above _ _ _ _ _ _ c.min.ensures c.min-stop.ensures c.next_stretch-p.ensures.0 c.next_stretch-q.ensures.0 c.loop-row-test.true in fact)),
+      least_end l.row _ _ _ _ _ c.min.ensures c.min-stop.ensures,
       turn _ c.args.start l.row _ _ _ _ l.invariant.0 far l.invariant.2 m.1 (both_flat _ _ l.row _ p.result q.result p.ensures.1 q.ensures.1 one two _ m.0) c.added-t.ensures,
       turn _ c.args.start l.row _ _ _ _ l.invariant.0 far l.invariant.3 k.1 (both_flat _ _ l.row _ q.result p.result q.ensures.1 p.ensures.1 two one _ k.0) c.added-u.ensures,
       later_flat _ l.row _ p.result far p.ensures.1,

@@ -14,25 +14,25 @@ find_stretch-s-requires c =
     (row_low _ _ c.loop-row-test.true c.requires.start_le_end.1, c.requires.all_ready l.row l.invariant.0 c.loop-row-test.true)
 
 pub overflow_sub-stop : goal.overflow_sub-stop
-overflow_sub-stop c = in_order_lem _ _ ((let fact : c.loop-row.row < c.lesser-stop.result = stop_above _ _ _ _ c.lesser-stop.ensures c.find_stretch-s.ensures.0 c.loop-row-test.true in fact))
+overflow_sub-stop c = in_order_lem _ _ ((let fact : c.loop-row.row < c.min-stop.result = stop_above _ _ _ _ c.min-stop.ensures c.find_stretch-s.ensures.0 c.loop-row-test.true in fact))
 
 pub added-t-requires : goal.added-t-requires
 added-t-requires c =
     let l = c.loop-row in
-    record { count_bound = room_of _ c.find_stretch-s.ensures.1.bounded; n_bound = room _ c.args.start l.row _ _ l.invariant.2 (stop_low _ _ _ ((let fact : c.loop-row.row < c.lesser-stop.result = stop_above _ _ _ _ c.lesser-stop.ensures c.find_stretch-s.ensures.0 c.loop-row-test.true in fact)) (stop_end _ _ _ c.lesser-stop.ensures) c.requires.start_le_end.1) }
+    record { count_bound = room_of _ c.find_stretch-s.ensures.1.bounded; n_bound = room _ c.args.start l.row _ _ l.invariant.2 (stop_low _ _ _ ((let fact : c.loop-row.row < c.min-stop.result = stop_above _ _ _ _ c.min-stop.ensures c.find_stretch-s.ensures.0 c.loop-row-test.true in fact)) (stop_end _ _ _ c.min-stop.ensures) c.requires.start_le_end.1) }
 
 pub loop-row-smaller : goal.loop-row-smaller
 loop-row-smaller c =
-    fewer (until_of c.args.body.now c.args.n) c.args.end _ _ _ c.loop-row-test.true c.find_stretch-s.ensures.0 c.find_stretch-s.ensures.2 c.lesser-stop.ensures
+    fewer (until_of c.args.body.now c.args.n) c.args.end _ _ _ c.loop-row-test.true c.find_stretch-s.ensures.0 c.find_stretch-s.ensures.2 c.min-stop.ensures
 
 pub loop-row-preserved : goal.loop-row-preserved
 loop-row-preserved c =
     let l = c.loop-row in
     let f = c.find_stretch-s in
-    let w = c.lesser-stop.ensures in (
-      further _ _ _ l.invariant.0 ((let fact : c.loop-row.row < c.lesser-stop.result = stop_above _ _ _ _ c.lesser-stop.ensures c.find_stretch-s.ensures.0 c.loop-row-test.true in fact)),
+    let w = c.min-stop.ensures in (
+      further _ _ _ l.invariant.0 ((let fact : c.loop-row.row < c.min-stop.result = stop_above _ _ _ _ c.min-stop.ensures c.find_stretch-s.ensures.0 c.loop-row-test.true in fact)),
       stop_end _ _ _ w,
-      turn _ c.args.start l.row _ _ _ _ l.invariant.0 (in_order_lem _ _ ((let fact : c.loop-row.row < c.lesser-stop.result = stop_above _ _ _ _ c.lesser-stop.ensures c.find_stretch-s.ensures.0 c.loop-row-test.true in fact))) l.invariant.2 f.ensures.1.bounded (flat_to _ l.row _ f.result f.ensures.1 (stop_until _ _ _ w)) c.added-t.ensures,
+      turn _ c.args.start l.row _ _ _ _ l.invariant.0 (in_order_lem _ _ ((let fact : c.loop-row.row < c.min-stop.result = stop_above _ _ _ _ c.min-stop.ensures c.find_stretch-s.ensures.0 c.loop-row-test.true in fact))) l.invariant.2 f.ensures.1.bounded (flat_to _ l.row _ f.result f.ensures.1 (stop_until _ _ _ w)) c.added-t.ensures,
     )
 
 pub returns : goal.returns

@@ -29,11 +29,11 @@ pub loop-k-preserved : goal.loop-k-preserved
 loop-k-preserved c =
     let a = c.args in
     let l = c.loop-k in
-      λ x b h.
-          let p : b + (a.j + l.k) ≡ b + a.j + l.k = omega arith in
-          let q : b + (a.j + l.k + 1) ≡ b + a.j + l.k + 1 = omega arith in
-          run_goes x (b + a.j + l.k) (a.count - (a.j + l.k)) _ _ l.k (l.k + 1) _ _ (omega arith) (omega arith) (omega arith) refl (h (a.j + l.k) (omega arith) ∙ ap (rank (keys_of x)) p) (h (a.j + l.k + 1) (omega arith) ∙ ap (rank (keys_of x)) q) c.if-ranks-j.false
-          ∙ l.invariant x b h
+    λ x b h.
+    let p : b + (a.j + l.k) ≡ b + a.j + l.k = omega arith in
+    let q : b + (a.j + l.k + 1) ≡ b + a.j + l.k + 1 = omega arith in
+    run_goes x (b + a.j + l.k) (a.count - (a.j + l.k)) _ _ l.k (l.k + 1) _ _ (omega arith) (omega arith) (omega arith) refl (h (a.j + l.k) (omega arith) ∙ ap (rank (keys_of x)) p) (h (a.j + l.k + 1) (omega arith) ∙ ap (rank (keys_of x)) q) c.if-ranks-j.false
+    ∙ l.invariant x b h
 
 pub returns : goal.returns
 returns c =

@@ -36,7 +36,7 @@ loop-r-preserved c =
     let l = c.loop-r in
     let s = c.block_slot-s in
     λ old k e.
-          rw add-one (block_step x a.base a.count (omega arith) a.n l.r s.result a.to (get_or a.ranks.now s.result 0) l.room _ old (omega arith) (omega arith) s.ensures.0 (λ q. p.by_index s.result q) (l.invariant old k e) c.put_rank.ensures)
+    rw add-one (block_step x a.base a.count (omega arith) a.n l.r s.result a.to (get_or a.ranks.now s.result 0) l.room _ old (omega arith) (omega arith) s.ensures.0 (λ q. p.by_index s.result q) (l.invariant old k e) c.put_rank.ensures)
 
 pub returns : goal.returns
 returns c =
