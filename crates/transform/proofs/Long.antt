@@ -9,8 +9,8 @@ use Rattle.schema.specs.formats.Code.{is_fixed, is_string, is_view, is_list_view
 use Rattle.utils.specs.Extension.{extended}
 use Rattle.utils.specs.declared.Extended.{Extended}
 use Rattle.utils.specs.declared.Extended.TheVariants.{Fits, Over, Falls}
-use Rattle.run_ends.specs.declared.Runs.{Runs}
-use Rattle.run_ends.specs.declared.Runs.TheVariants.{Range, None}
+use Rattle.std.specs.Prelude.{Option, Some, None}
+use Rattle.run_ends.specs.declared.RunRange.{RunRange}
 use Rattle.walk.specs.State.{Join, code_of, dictionary_of, end_of, keeps_of, bytes_of, rows, bytes, gap, place, far}
 use Rattle.walk.specs.Log.{Entry, Out, fail, done, wrote, need, found, next, each}
 use Rattle.walk.specs.Leaves.{copy_bits, copy_mask, null_mask, count_nulls, copy_numbers, copy_keys, copy_views, null_numbers, put_string, put_extended, copy_string, null_string}
@@ -128,10 +128,10 @@ module _ {m : ℕ} where
       long_dense slot n h =
           long_need _ 12 h (long_each _ (λ r c1 g. long_found 32 _ 12 _ g (long_need _ 6 g (long_next _ (long_wrote _ g) (λ c2 q. long_next _ (long_wrote _ q) (λ c3 k. below _ _ 1 c3 k))))) n 0 h)
 
-      long_put : (w slot n : ℕ) (r : Runs) {c : List ℕ} → Sized m c → Long m (put_runs x walk w i slot n r c)
+      long_put : (w slot n : ℕ) (r : Option RunRange) {c : List ℕ} → Sized m c → Long m (put_runs x walk w i slot n r c)
       long_put w slot n None h = long_fail 12 h
-      long_put w slot n (Range start count) h =
-          long_next _ (below (suc (suc i)) start.0 count _ h) (λ c2 g. long_next _ (long_wrote _ g) (λ c3 k. long_done (sized_set (3 * i + 2) _ (sized_set (3 * suc i) _ k))))
+      long_put w slot n (Some r) h =
+          long_next _ (below (suc (suc i)) r.first.0 r.count _ h) (λ c2 g. long_next _ (long_wrote _ g) (λ c3 k. long_done (sized_set (3 * i + 2) _ (sized_set (3 * suc i) _ k))))
 
       long_runs : (slot n : ℕ) {c : List ℕ} → Sized m c → Long m (copy_runs x walk i slot n c)
       unfolding copy_runs

@@ -16,7 +16,6 @@ use Rattle.array_data.specs.Typed.{Tree, column_of, body_of}
 use Rattle.array_data.proofs.entries.Laws.{number_cut}
 use Rattle.run_ends.specs.Lookup.{Climbs, Rising, bisect, found_at}
 use Rattle.run_ends.specs.declared.PhysicalRun.{PhysicalRun}
-use Rattle.run_ends.specs.declared.Found.TheVariants as found
 use Rattle.run_ends.proofs.Laws.{bisect_first}
 use Rattle.slot_reader.specs.declared.run.RowRun.{RowRun}
 use Rattle.slot_reader.specs.declared.run.RowRun.TheVariants as answer
