@@ -21,11 +21,6 @@ use Rattle.slot_reader.specs.declared.RowRead.{RowRead}
 use Rattle.row_reader.specs.Walk.{row_at}
 use Rattle.lafkuno.specs.Calls.{open_ground, open_tree, row_kind, row_numbers, walked_numbers, read_kind, read_numbers}
 
--- one more word is written
-pub word_step : (d b : List ℕ) (i : ℕ) → i < length d → i < length b
-    → set (splice 0 (take i (drop 0 b)) d) i (get_or b i 0) ≡ splice 0 (take (i + 1) (drop 0 b)) d
-word_step d b i h k = rw zero-add at (copy_step d b 0 0 i (rw zero-add h) (rw zero-add k))
-
 module _ (formats schema : List ℕ) (x : Tables) (first n : ℕ) (room : List ℕ) where
   -- the column's ground, whatever the room
   pub column_refused : (g : ℕ) → g ≡ column_ground formats schema x first n → (g ≡ 0 → ⊥) → g ≡ open_ground formats schema x first n room

@@ -39,7 +39,7 @@ fn ratio_words(r: RatioReport) -> [u64; 6]
 pub fn flag(b: bool) -> u64
     ensures { result ≡ flag_of b }
 {
-    if b { 1 } else { 0 }
+    u64::from(b)
 }
 
 // Count, sum and mean of the rows start .. end - 1 of a column: 0 and the five numbers, or the ground; 14, last, where the answer has not

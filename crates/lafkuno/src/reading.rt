@@ -9,6 +9,7 @@ ghost use Rattle.row_reader.specs.Walk.{run_at};
 ghost use Rattle.row_reader.specs.runs.Answers.{read_run, refusal, numbers};
 ghost use Rattle.lafkuno.specs.Calls.{open_ground, open_tree, leaf_kind, leaf_number, row_kind, row_numbers, read_kind, read_numbers};
 
+use number::Signed;
 use row_reader::runs;
 use slot_reader::RowRead;
 use slot_reader::leaf_row::Leaf;
@@ -38,11 +39,7 @@ pub fn copy_words(room: &mut [u64], words: &[u64])
     requires { length words.now ≤ length room.old }
     ensures { room.new ≡ splice 0 (was words) room.old }
 {
-    let mut i = 0;
-    while i < words.len() {
-        room[i] = words[i];
-        i += 1;
-    }
+    room[..words.len()].copy_from_slice(words);
 }
 
 // A copy; that it has 256 elements is known of an array that a call returns.
@@ -88,10 +85,7 @@ pub extern "C" fn lafkuno_open_column(
 pub fn whole_number(z: i64) -> u64
     ensures { result ≡ pattern 8 z }
 {
-    if z < 0 {
-        return u64::MAX - ((-1 - z) as u64);
-    }
-    z as u64
+    z.pattern()
 }
 
 // 0 null, 1 a signed number, 2 an unsigned one, 3 an f32, 4 an f64.
