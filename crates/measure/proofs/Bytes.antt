@@ -7,9 +7,10 @@ use native.Mathlib.Omega.{arith}
 use lib.Dec.{ltb}
 use Rattle.schema.specs.formats.Code.{is_string, is_list_view, width_of}
 use Rattle.walk.specs.State.{code_of, rows, bytes, top}
-use Rattle.plan.specs.parts.Parts.{nodes_of, validity_parts, part_count, part_from, part_at, has_offsets, entry_size, needed_by, needed}
+use Rattle.plan.specs.parts.Parts.{spot, nodes_of, validity_parts, part_count, part_from, part_at, has_offsets, entry_size, needed_by, needed}
 use Rattle.plan.specs.declared.parts.Spot.{Spot}
-use Rattle.plan.specs.declared.parts.Spot.TheVariants.{Of, Nothing}
+use Rattle.std.specs.Prelude.{Option, Some, None}
+use Rattle.std.proofs.lemmas.Option.{same_Some}
 use Rattle.refinement.specs.orders.Measure.{needed_in, needed_bytes}
 
 pub bits_are : (r : ℕ) → r ≤ top → r / 8 + (r % 8 + 7) / 8 ≡ min ((r + 7) / 8) top
@@ -62,26 +63,26 @@ module _ (plan counters : List ℕ) (i b : ℕ) {r : ℕ} (e : r ≡ rows counte
 -- ---- a part
 
 -- the node of a part is one of the nodes
-from_below : (plan : List ℕ) (n i p j b : ℕ) → part_from plan n i p ≡ Of j b → j < i + n
+from_below : (plan : List ℕ) (n i p j b : ℕ) → part_from plan n i p ≡ Some (spot j b) → j < i + n
 unfolding part_from
 from_below plan zero i p j b h = let z : ◌≡◌ {A = ℕ} 0 1 = cc in absurd (omega (arith, z))
 from_below plan (suc n) i p j b h = go (ltb p (part_count plan i)) refl (from_below plan n (suc i) (p - part_count plan i) j b)
   where
-    go : (t : Bool) → ltb p (part_count plan i) ≡ t → (part_from plan n (suc i) (p - part_count plan i) ≡ Of j b → j < suc i + n) → j < i + suc n
+    go : (t : Bool) → ltb p (part_count plan i) ≡ t → (part_from plan n (suc i) (p - part_count plan i) ≡ Some (spot j b) → j < suc i + n) → j < i + suc n
     go true e f =
-        let q : Of i (p + 1 - validity_parts plan i) ≡ Of j b = rw e at h in
-        let z : i ≡ j = cc in
+        let q : Some (spot i (p + 1 - validity_parts plan i)) ≡ Some (spot j b) = rw e at h in
+        let z : i ≡ j = ap (λ (s : Spot). s.node) (same_Some (spot i (p + 1 - validity_parts plan i)) (spot j b) q) in
         omega (arith, z)
-    go false e f = let q : part_from plan n (suc i) (p - part_count plan i) ≡ Of j b = rw e at h in omega (arith, f q)
+    go false e f = let q : part_from plan n (suc i) (p - part_count plan i) ≡ Some (spot j b) = rw e at h in omega (arith, f q)
 
-module _ (plan counters : List ℕ) (p : ℕ) {q : Spot} (e : q ≡ part_at plan p) where
-  pub node_below : {i b : ℕ} → q ≡ Of i b → i < 32
+module _ (plan counters : List ℕ) (p : ℕ) {q : Option Spot} (e : q ≡ part_at plan p) where
+  pub node_below : {i b : ℕ} → q ≡ Some (spot i b) → i < 32
   node_below {i} {b} h = omega (arith, from_below plan (nodes_of plan) 0 p i b (sym e ∙ h))
 
-  pub bytes_of : {i b s : ℕ} → q ≡ Of i b → s ≡ min (needed plan counters i b) top → s ≡ needed_bytes plan counters p
+  pub bytes_of : {i b s : ℕ} → q ≡ Some (spot i b) → s ≡ min (needed plan counters i b) top → s ≡ needed_bytes plan counters p
   unfolding needed_bytes
   bytes_of h d = d ∙ ap (λ z. min (needed_in plan counters z) top) (sym h ∙ e)
 
-  pub bytes_none : q ≡ Nothing → 0 ≡ needed_bytes plan counters p
+  pub bytes_none : q ≡ None → 0 ≡ needed_bytes plan counters p
   unfolding needed_bytes
   bytes_none h = ap (λ z. min (needed_in plan counters z) top) (sym h ∙ e)

@@ -195,7 +195,7 @@ pub fn needed_bytes(plan: &[u64], counters: &[u64], p: u32) -> u64
     ensures { result ≡ needed_bytes (was plan) (was counters) p }
 {
     match plan::parts::part_at(plan, p as usize) {
-        plan::parts::Spot::Of { node, buffer } => buffer_bytes(plan, counters, node, buffer),
-        plan::parts::Spot::Nothing => 0,
+        Some(s) => buffer_bytes(plan, counters, s.node, s.buffer),
+        None => 0,
     }
 }

@@ -1,6 +1,5 @@
 // Vectors of format strings: each line has a text, its code, the bytes of an entry, the ids of a union or `bad`, and the array of ids.
 use schema::union_ids;
-use schema::union_ids::Ids;
 use std::io;
 
 fn wide(x: u8) -> u64 {
@@ -24,10 +23,10 @@ fn put_all(rt: &impl Print, ids: &[u8; 16]) -> io::Result<()> {
 fn put_ids(rt: &impl Print, s: &[u8], at: usize, len: usize) -> io::Result<()> {
     let mut ids = [255u8; 16];
     match union_ids::union_ids(s, at, len, &mut ids) {
-        Ids::Count(k) => {
+        Some(k) => {
             put(rt, wide(k))?;
         }
-        Ids::Bad => {
+        None => {
             rt.write_all(b" bad")?;
         }
     }
