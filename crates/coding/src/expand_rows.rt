@@ -10,13 +10,6 @@ ghost use Rattle.coding.specs.run_coding.Writes.{Holds, rows_written, Ends, rows
 use crate::run_coding::{Slots, Spots};
 use aggregates::patterns;
 
-// The lesser of two.
-fn lesser(a: u64, b: u64) -> u64
-    ensures { result ≡ min a b }
-{
-    if a < b { a } else { b }
-}
-
 // The w lowest bytes of v, n times.
 fn fill(room: &mut [u8], at: usize, w: u8, n: usize, v: u64)
     requires { Sized w × (at + w * n ≤ length room.old) }
@@ -109,7 +102,7 @@ fn write_each(
     let mut r = 0;
     while r < m {
         let end = patterns::read_pattern(body, ends + q * (e as usize), e);
-        let next = lesser(end - x, m as u64) as usize;
+        let next = (end - x).min(m as u64) as usize;
         let n = next - r;
         let valid = crate::run_coding::is_valid(body, masked, s, q);
         let v = crate::run_coding::number_at(body, w, s, q);

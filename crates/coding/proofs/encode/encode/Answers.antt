@@ -20,62 +20,134 @@ use Rattle.coding.proofs.Accepted.{due_width}
 use Rattle.coding.proofs.Codes.{ends_sized}
 use Rattle.coding.proofs.Fitted.{room_for}
 use Rattle.coding.proofs.Room.{room_free}
+use Rattle.coding.proofs.encode.encode.Goals.{Else-g-ne0-2}
 use Rattle.coding.proofs.encode.encode.Goals as goal
+
+-- what the refusals leave: the body has bytes, the column is well formed, and the call's own grounds hold
+kept : (c : Else-g-ne0-2) → let z = c.args in let x = tables_of z.lengths.now z.places.now z.buffers.now z.body.now in
+    (z.first < 2 ^ 32)
+    × ((j : ℕ) → get_or z.body.now j 0 < 256)
+    × (column_ground z.formats.now z.schema.now x z.first z.n ≡ 0)
+    × (encode_own z.formats.now z.schema.now x z.first z.n z.target z.start z.end ≡ 0)
+kept c =
+    let z = c.args in (
+      omega arith,
+      λ j. (c.shared_slice_known-6-1.given j).fits,
+      sym c.column_ground-g.ensures ∙ c.if-g-ne0.false,
+      sym (own_same z.formats.now z.schema.now z.lengths.now z.places.now z.buffers.now z.body.now z.first z.n z.target z.start z.end) ∙ sym c.own_ground-g.ensures ∙ c.if-g-ne0-2.false,
+    )
 
 pub returns-then-room-gt-CEILING : goal.returns-then-room-gt-CEILING
 returns-then-room-gt-CEILING c =
     let z = c.args in
-    answers_large z.formats.now z.schema.now ((tables_of c.args.lengths.now c.args.places.now c.args.buffers.now c.args.body.now)) z.first z.n ((encode_own c.args.formats.now c.args.schema.now ((tables_of c.args.lengths.now c.args.places.now c.args.buffers.now c.args.body.now)) c.args.first c.args.n c.args.target c.args.start c.args.end)) ((encode_plan c.args.formats.now c.args.schema.now ((tables_of c.args.lengths.now c.args.places.now c.args.buffers.now c.args.body.now)) c.args.first c.args.n c.args.target c.args.start c.args.end)) ((encode_out c.args.formats.now c.args.schema.now ((tables_of c.args.lengths.now c.args.places.now c.args.buffers.now c.args.body.now)) c.args.first c.args.n c.args.target c.args.start c.args.end)) z.parts.now z.plan.now z.counters.now z.room.now (small_no z.room.now (omega (arith, c.if-room-gt-CEILING.true)))
+    let x = tables_of z.lengths.now z.places.now z.buffers.now z.body.now in
+    let ground = encode_own z.formats.now z.schema.now x z.first z.n z.target z.start z.end in
+    let made = encode_plan z.formats.now z.schema.now x z.first z.n z.target z.start z.end in
+    let answer = encode_out z.formats.now z.schema.now x z.first z.n z.target z.start z.end in
+    answers_large z.formats.now z.schema.now x z.first z.n ground made answer z.parts.now z.plan.now z.counters.now z.room.now (small_no z.room.now (omega (arith, c.if-room-gt-CEILING.true)))
 
 pub returns-then-g-ne0 : goal.returns-then-g-ne0
 returns-then-g-ne0 c =
     let z = c.args in
-    answers_refused z.formats.now z.schema.now ((tables_of c.args.lengths.now c.args.places.now c.args.buffers.now c.args.body.now)) z.first z.n ((encode_own c.args.formats.now c.args.schema.now ((tables_of c.args.lengths.now c.args.places.now c.args.buffers.now c.args.body.now)) c.args.first c.args.n c.args.target c.args.start c.args.end)) ((encode_plan c.args.formats.now c.args.schema.now ((tables_of c.args.lengths.now c.args.places.now c.args.buffers.now c.args.body.now)) c.args.first c.args.n c.args.target c.args.start c.args.end)) ((encode_out c.args.formats.now c.args.schema.now ((tables_of c.args.lengths.now c.args.places.now c.args.buffers.now c.args.body.now)) c.args.first c.args.n c.args.target c.args.start c.args.end)) z.parts.now z.plan.now z.counters.now z.room.now (small_yes z.room.now (omega (arith, c.if-room-gt-CEILING.false))) (before_column z.formats.now z.schema.now ((tables_of c.args.lengths.now c.args.places.now c.args.buffers.now c.args.body.now)) z.first z.n ((encode_own c.args.formats.now c.args.schema.now ((tables_of c.args.lengths.now c.args.places.now c.args.buffers.now c.args.body.now)) c.args.first c.args.n c.args.target c.args.start c.args.end)) ((encode_plan c.args.formats.now c.args.schema.now ((tables_of c.args.lengths.now c.args.places.now c.args.buffers.now c.args.body.now)) c.args.first c.args.n c.args.target c.args.start c.args.end)) ((encode_out c.args.formats.now c.args.schema.now ((tables_of c.args.lengths.now c.args.places.now c.args.buffers.now c.args.body.now)) c.args.first c.args.n c.args.target c.args.start c.args.end)) c.column_ground-g.ensures c.if-g-ne0.true) c.if-g-ne0.true
+    let x = tables_of z.lengths.now z.places.now z.buffers.now z.body.now in
+    let ground = encode_own z.formats.now z.schema.now x z.first z.n z.target z.start z.end in
+    let made = encode_plan z.formats.now z.schema.now x z.first z.n z.target z.start z.end in
+    let answer = encode_out z.formats.now z.schema.now x z.first z.n z.target z.start z.end in
+    answers_refused z.formats.now z.schema.now x z.first z.n ground made answer z.parts.now z.plan.now z.counters.now z.room.now (small_yes z.room.now (omega (arith, c.if-room-gt-CEILING.false))) (before_column z.formats.now z.schema.now x z.first z.n ground made answer c.column_ground-g.ensures c.if-g-ne0.true) c.if-g-ne0.true
 
 pub returns-then-g-ne0-2 : goal.returns-then-g-ne0-2
 returns-then-g-ne0-2 c =
     let z = c.args in
+    let x = tables_of z.lengths.now z.places.now z.buffers.now z.body.now in
+    let ground = encode_own z.formats.now z.schema.now x z.first z.n z.target z.start z.end in
+    let made = encode_plan z.formats.now z.schema.now x z.first z.n z.target z.start z.end in
+    let answer = encode_out z.formats.now z.schema.now x z.first z.n z.target z.start z.end in
     let e = c.own_ground-g.ensures ∙ own_same z.formats.now z.schema.now z.lengths.now z.places.now z.buffers.now z.body.now z.first z.n z.target z.start z.end in
-    answers_refused z.formats.now z.schema.now ((tables_of c.args.lengths.now c.args.places.now c.args.buffers.now c.args.body.now)) z.first z.n ((encode_own c.args.formats.now c.args.schema.now ((tables_of c.args.lengths.now c.args.places.now c.args.buffers.now c.args.body.now)) c.args.first c.args.n c.args.target c.args.start c.args.end)) ((encode_plan c.args.formats.now c.args.schema.now ((tables_of c.args.lengths.now c.args.places.now c.args.buffers.now c.args.body.now)) c.args.first c.args.n c.args.target c.args.start c.args.end)) ((encode_out c.args.formats.now c.args.schema.now ((tables_of c.args.lengths.now c.args.places.now c.args.buffers.now c.args.body.now)) c.args.first c.args.n c.args.target c.args.start c.args.end)) z.parts.now z.plan.now z.counters.now z.room.now (small_yes z.room.now (omega (arith, c.if-room-gt-CEILING.false))) (before_own z.formats.now z.schema.now ((tables_of c.args.lengths.now c.args.places.now c.args.buffers.now c.args.body.now)) z.first z.n ((encode_own c.args.formats.now c.args.schema.now ((tables_of c.args.lengths.now c.args.places.now c.args.buffers.now c.args.body.now)) c.args.first c.args.n c.args.target c.args.start c.args.end)) ((encode_plan c.args.formats.now c.args.schema.now ((tables_of c.args.lengths.now c.args.places.now c.args.buffers.now c.args.body.now)) c.args.first c.args.n c.args.target c.args.start c.args.end)) ((encode_out c.args.formats.now c.args.schema.now ((tables_of c.args.lengths.now c.args.places.now c.args.buffers.now c.args.body.now)) c.args.first c.args.n c.args.target c.args.start c.args.end)) (sym c.column_ground-g.ensures ∙ c.if-g-ne0.false) e c.if-g-ne0-2.true) c.if-g-ne0-2.true
+    answers_refused z.formats.now z.schema.now x z.first z.n ground made answer z.parts.now z.plan.now z.counters.now z.room.now (small_yes z.room.now (omega (arith, c.if-room-gt-CEILING.false))) (before_own z.formats.now z.schema.now x z.first z.n ground made answer (sym c.column_ground-g.ensures ∙ c.if-g-ne0.false) e c.if-g-ne0-2.true) c.if-g-ne0-2.true
 
 pub planned-draft-requires : goal.planned-draft-requires
 planned-draft-requires c =
     let z = c.args in
-    record { comes = come z.formats.now z.schema.now z.lengths.now z.places.now z.buffers.now z.body.now z.first z.n z.target z.start z.end ((let fact : c.args.first < 2 ^ 32 = omega arith in fact)) ((let fact : (j : ℕ) → get_or ((tables_of c.args.lengths.now c.args.places.now c.args.buffers.now c.args.body.now)).body j 0 < 256 = λ j₁. (c.shared_slice_known-6-1.given j₁).fits in fact)) ((let fact : column_ground c.args.formats.now c.args.schema.now ((tables_of c.args.lengths.now c.args.places.now c.args.buffers.now c.args.body.now)) c.args.first c.args.n ≡ 0 = sym c.column_ground-g.ensures ∙ c.if-g-ne0.false in fact)) ((let fact : (encode_own c.args.formats.now c.args.schema.now ((tables_of c.args.lengths.now c.args.places.now c.args.buffers.now c.args.body.now)) c.args.first c.args.n c.args.target c.args.start c.args.end) ≡ 0 = let z = c.args in sym (own_same z.formats.now z.schema.now z.lengths.now z.places.now z.buffers.now z.body.now z.first z.n z.target z.start z.end) ∙ sym c.own_ground-g.ensures ∙ c.if-g-ne0-2.false in fact)); target_value = (own z.formats.now z.schema.now z.lengths.now z.places.now z.buffers.now z.body.now z.first z.n z.target z.start z.end ((let fact : c.args.first < 2 ^ 32 = omega arith in fact)) ((let fact : (j : ℕ) → get_or ((tables_of c.args.lengths.now c.args.places.now c.args.buffers.now c.args.body.now)).body j 0 < 256 = λ j₁. (c.shared_slice_known-6-1.given j₁).fits in fact)) ((let fact : column_ground c.args.formats.now c.args.schema.now ((tables_of c.args.lengths.now c.args.places.now c.args.buffers.now c.args.body.now)) c.args.first c.args.n ≡ 0 = sym c.column_ground-g.ensures ∙ c.if-g-ne0.false in fact)) ((let fact : (encode_own c.args.formats.now c.args.schema.now ((tables_of c.args.lengths.now c.args.places.now c.args.buffers.now c.args.body.now)) c.args.first c.args.n c.args.target c.args.start c.args.end) ≡ 0 = let z = c.args in sym (own_same z.formats.now z.schema.now z.lengths.now z.places.now z.buffers.now z.body.now z.first z.n z.target z.start z.end) ∙ sym c.own_ground-g.ensures ∙ c.if-g-ne0-2.false in fact))).due }
+    let k = kept (goal.at.planned-draft-requires c).Else-g-ne0-2 in
+    record { comes = come z.formats.now z.schema.now z.lengths.now z.places.now z.buffers.now z.body.now z.first z.n z.target z.start z.end k.0 k.1 k.2 k.3; target_value = (own z.formats.now z.schema.now z.lengths.now z.places.now z.buffers.now z.body.now z.first z.n z.target z.start z.end k.0 k.1 k.2 k.3).due }
 
 pub runs_ground-g-requires : goal.runs_ground-g-requires
 runs_ground-g-requires c =
     let z = c.args in
-    codable z.formats.now z.schema.now z.lengths.now z.places.now z.buffers.now z.body.now z.first z.n z.target z.start z.end ((let fact : c.args.first < 2 ^ 32 = omega arith in fact)) ((let fact : (j : ℕ) → get_or ((tables_of c.args.lengths.now c.args.places.now c.args.buffers.now c.args.body.now)).body j 0 < 256 = λ j₁. (c.shared_slice_known-6-1.given j₁).fits in fact)) ((let fact : column_ground c.args.formats.now c.args.schema.now ((tables_of c.args.lengths.now c.args.places.now c.args.buffers.now c.args.body.now)) c.args.first c.args.n ≡ 0 = sym c.column_ground-g.ensures ∙ c.if-g-ne0.false in fact)) ((let fact : (encode_own c.args.formats.now c.args.schema.now ((tables_of c.args.lengths.now c.args.places.now c.args.buffers.now c.args.body.now)) c.args.first c.args.n c.args.target c.args.start c.args.end) ≡ 0 = let z = c.args in sym (own_same z.formats.now z.schema.now z.lengths.now z.places.now z.buffers.now z.body.now z.first z.n z.target z.start z.end) ∙ sym c.own_ground-g.ensures ∙ c.if-g-ne0-2.false in fact)) _ ((let fact : not (eqb c.keeps_of-keep.result 0) ≡ encode_keeps c.args.formats.now c.args.schema.now ((tables_of c.args.lengths.now c.args.places.now c.args.buffers.now c.args.body.now)) c.args.first c.args.n c.args.target c.args.start c.args.end 2 = let z = c.args in keep_by z.formats.now z.schema.now z.target 3 2 (encode_keeps z.formats.now z.schema.now ((tables_of c.args.lengths.now c.args.places.now c.args.buffers.now c.args.body.now)) z.first z.n z.target z.start z.end) _ (omega arith) (omega arith) c.planned-draft.ensures c.keeps_of-keep.ensures in fact))
+    let x = tables_of z.lengths.now z.places.now z.buffers.now z.body.now in
+    let k = kept (goal.at.runs_ground-g-requires c).Else-g-ne0-2 in
+    let keeps : not (eqb c.keeps_of-keep.result 0) ≡ encode_keeps z.formats.now z.schema.now x z.first z.n z.target z.start z.end 2 = keep_by z.formats.now z.schema.now z.target 3 2 (encode_keeps z.formats.now z.schema.now x z.first z.n z.target z.start z.end) _ (omega arith) (omega arith) c.planned-draft.ensures c.keeps_of-keep.ensures in
+    codable z.formats.now z.schema.now z.lengths.now z.places.now z.buffers.now z.body.now z.first z.n z.target z.start z.end k.0 k.1 k.2 k.3 _ keeps
 
 pub returns-then-g-ne0-3 : goal.returns-then-g-ne0-3
 returns-then-g-ne0-3 c =
     let z = c.args in
-    answers_room z.formats.now z.schema.now ((tables_of c.args.lengths.now c.args.places.now c.args.buffers.now c.args.body.now)) z.first z.n ((encode_own c.args.formats.now c.args.schema.now ((tables_of c.args.lengths.now c.args.places.now c.args.buffers.now c.args.body.now)) c.args.first c.args.n c.args.target c.args.start c.args.end)) ((encode_plan c.args.formats.now c.args.schema.now ((tables_of c.args.lengths.now c.args.places.now c.args.buffers.now c.args.body.now)) c.args.first c.args.n c.args.target c.args.start c.args.end)) ((encode_out c.args.formats.now c.args.schema.now ((tables_of c.args.lengths.now c.args.places.now c.args.buffers.now c.args.body.now)) c.args.first c.args.n c.args.target c.args.start c.args.end)) z.parts.now z.plan.now z.counters.now z.room.now ((let fact : small_body c.args.room.now ≡ true = small_yes c.args.room.now (omega (arith, c.if-room-gt-CEILING.false)) in fact)) ((let fact : ahead c.args.formats.now c.args.schema.now ((tables_of c.args.lengths.now c.args.places.now c.args.buffers.now c.args.body.now)) c.args.first c.args.n ((encode_own c.args.formats.now c.args.schema.now ((tables_of c.args.lengths.now c.args.places.now c.args.buffers.now c.args.body.now)) c.args.first c.args.n c.args.target c.args.start c.args.end)) ((encode_plan c.args.formats.now c.args.schema.now ((tables_of c.args.lengths.now c.args.places.now c.args.buffers.now c.args.body.now)) c.args.first c.args.n c.args.target c.args.start c.args.end)) ((encode_out c.args.formats.now c.args.schema.now ((tables_of c.args.lengths.now c.args.places.now c.args.buffers.now c.args.body.now)) c.args.first c.args.n c.args.target c.args.start c.args.end)) ≡ 0 = let z = c.args in none_before z.formats.now z.schema.now z.lengths.now z.places.now z.buffers.now z.body.now z.first z.n z.target z.start z.end ((let fact : c.args.first < 2 ^ 32 = omega arith in fact)) ((let fact : (j : ℕ) → get_or ((tables_of c.args.lengths.now c.args.places.now c.args.buffers.now c.args.body.now)).body j 0 < 256 = λ j₁. (c.shared_slice_known-6-1.given j₁).fits in fact)) ((let fact : column_ground c.args.formats.now c.args.schema.now ((tables_of c.args.lengths.now c.args.places.now c.args.buffers.now c.args.body.now)) c.args.first c.args.n ≡ 0 = sym c.column_ground-g.ensures ∙ c.if-g-ne0.false in fact)) ((let fact : (encode_own c.args.formats.now c.args.schema.now ((tables_of c.args.lengths.now c.args.places.now c.args.buffers.now c.args.body.now)) c.args.first c.args.n c.args.target c.args.start c.args.end) ≡ 0 = let z = c.args in sym (own_same z.formats.now z.schema.now z.lengths.now z.places.now z.buffers.now z.body.now z.first z.n z.target z.start z.end) ∙ sym c.own_ground-g.ensures ∙ c.if-g-ne0-2.false in fact)) in fact)) ((let fact : c.runs_ground-g.result ≡ room_ground ((encode_plan c.args.formats.now c.args.schema.now ((tables_of c.args.lengths.now c.args.places.now c.args.buffers.now c.args.body.now)) c.args.first c.args.n c.args.target c.args.start c.args.end)) ((encode_out c.args.formats.now c.args.schema.now ((tables_of c.args.lengths.now c.args.places.now c.args.buffers.now c.args.body.now)) c.args.first c.args.n c.args.target c.args.start c.args.end)).counters c.args.parts.now (length c.args.plan.now) (length c.args.counters.now) (length c.args.room.now) = let z = c.args in c.runs_ground-g.ensures ∙ ap₂ (λ p k. room_ground p k z.parts.now (length z.plan.now) (length z.counters.now) (length z.room.now)) c.planned-draft.ensures (counters_are z.formats.now z.schema.now z.lengths.now z.places.now z.buffers.now z.body.now z.first z.n z.target z.start z.end ((let fact : c.args.first < 2 ^ 32 = omega arith in fact)) ((let fact : (j : ℕ) → get_or ((tables_of c.args.lengths.now c.args.places.now c.args.buffers.now c.args.body.now)).body j 0 < 256 = λ j₁. (c.shared_slice_known-6-1.given j₁).fits in fact)) ((let fact : column_ground c.args.formats.now c.args.schema.now ((tables_of c.args.lengths.now c.args.places.now c.args.buffers.now c.args.body.now)) c.args.first c.args.n ≡ 0 = sym c.column_ground-g.ensures ∙ c.if-g-ne0.false in fact)) ((let fact : (encode_own c.args.formats.now c.args.schema.now ((tables_of c.args.lengths.now c.args.places.now c.args.buffers.now c.args.body.now)) c.args.first c.args.n c.args.target c.args.start c.args.end) ≡ 0 = let z = c.args in sym (own_same z.formats.now z.schema.now z.lengths.now z.places.now z.buffers.now z.body.now z.first z.n z.target z.start z.end) ∙ sym c.own_ground-g.ensures ∙ c.if-g-ne0-2.false in fact)) _ ((let fact : not (eqb c.keeps_of-keep.result 0) ≡ encode_keeps c.args.formats.now c.args.schema.now ((tables_of c.args.lengths.now c.args.places.now c.args.buffers.now c.args.body.now)) c.args.first c.args.n c.args.target c.args.start c.args.end 2 = let z = c.args in keep_by z.formats.now z.schema.now z.target 3 2 (encode_keeps z.formats.now z.schema.now ((tables_of c.args.lengths.now c.args.places.now c.args.buffers.now c.args.body.now)) z.first z.n z.target z.start z.end) _ (omega arith) (omega arith) c.planned-draft.ensures c.keeps_of-keep.ensures in fact))) in fact)) c.if-g-ne0-3.true
+    let x = tables_of z.lengths.now z.places.now z.buffers.now z.body.now in
+    let ground = encode_own z.formats.now z.schema.now x z.first z.n z.target z.start z.end in
+    let made = encode_plan z.formats.now z.schema.now x z.first z.n z.target z.start z.end in
+    let answer = encode_out z.formats.now z.schema.now x z.first z.n z.target z.start z.end in
+    let k = kept (goal.at.returns-then-g-ne0-3 c).Else-g-ne0-2 in
+    let small : small_body z.room.now ≡ true = small_yes z.room.now (omega (arith, c.if-room-gt-CEILING.false)) in
+    let none_ahead : ahead z.formats.now z.schema.now x z.first z.n ground made answer ≡ 0 = none_before z.formats.now z.schema.now z.lengths.now z.places.now z.buffers.now z.body.now z.first z.n z.target z.start z.end k.0 k.1 k.2 k.3 in
+    let keeps : not (eqb c.keeps_of-keep.result 0) ≡ encode_keeps z.formats.now z.schema.now x z.first z.n z.target z.start z.end 2 = keep_by z.formats.now z.schema.now z.target 3 2 (encode_keeps z.formats.now z.schema.now x z.first z.n z.target z.start z.end) _ (omega arith) (omega arith) c.planned-draft.ensures c.keeps_of-keep.ensures in
+    let ground_is : c.runs_ground-g.result ≡ room_ground made answer.counters z.parts.now (length z.plan.now) (length z.counters.now) (length z.room.now) = c.runs_ground-g.ensures ∙ ap₂ (λ p k. room_ground p k z.parts.now (length z.plan.now) (length z.counters.now) (length z.room.now)) c.planned-draft.ensures (counters_are z.formats.now z.schema.now z.lengths.now z.places.now z.buffers.now z.body.now z.first z.n z.target z.start z.end k.0 k.1 k.2 k.3 _ keeps) in
+    answers_room z.formats.now z.schema.now x z.first z.n ground made answer z.parts.now z.plan.now z.counters.now z.room.now small none_ahead ground_is c.if-g-ne0-3.true
 
 pub write-k-requires : goal.write-k-requires
 write-k-requires c =
     let z = c.args in
-    let u = due z.formats.now z.schema.now z.lengths.now z.places.now z.buffers.now z.body.now z.first z.n z.target z.start z.end ((let fact : c.args.first < 2 ^ 32 = omega arith in fact)) ((let fact : (j : ℕ) → get_or ((tables_of c.args.lengths.now c.args.places.now c.args.buffers.now c.args.body.now)).body j 0 < 256 = λ j₁. (c.shared_slice_known-6-1.given j₁).fits in fact)) ((let fact : column_ground c.args.formats.now c.args.schema.now ((tables_of c.args.lengths.now c.args.places.now c.args.buffers.now c.args.body.now)) c.args.first c.args.n ≡ 0 = sym c.column_ground-g.ensures ∙ c.if-g-ne0.false in fact)) ((let fact : (encode_own c.args.formats.now c.args.schema.now ((tables_of c.args.lengths.now c.args.places.now c.args.buffers.now c.args.body.now)) c.args.first c.args.n c.args.target c.args.start c.args.end) ≡ 0 = let z = c.args in sym (own_same z.formats.now z.schema.now z.lengths.now z.places.now z.buffers.now z.body.now z.first z.n z.target z.start z.end) ∙ sym c.own_ground-g.ensures ∙ c.if-g-ne0-2.false in fact)) in record { sized = (ends_sized _ (due_width z.formats.now z.schema.now z.first z.target u), codable z.formats.now z.schema.now z.lengths.now z.places.now z.buffers.now z.body.now z.first z.n z.target z.start z.end ((let fact : c.args.first < 2 ^ 32 = omega arith in fact)) ((let fact : (j : ℕ) → get_or ((tables_of c.args.lengths.now c.args.places.now c.args.buffers.now c.args.body.now)).body j 0 < 256 = λ j₁. (c.shared_slice_known-6-1.given j₁).fits in fact)) ((let fact : column_ground c.args.formats.now c.args.schema.now ((tables_of c.args.lengths.now c.args.places.now c.args.buffers.now c.args.body.now)) c.args.first c.args.n ≡ 0 = sym c.column_ground-g.ensures ∙ c.if-g-ne0.false in fact)) ((let fact : (encode_own c.args.formats.now c.args.schema.now ((tables_of c.args.lengths.now c.args.places.now c.args.buffers.now c.args.body.now)) c.args.first c.args.n c.args.target c.args.start c.args.end) ≡ 0 = let z = c.args in sym (own_same z.formats.now z.schema.now z.lengths.now z.places.now z.buffers.now z.body.now z.first z.n z.target z.start z.end) ∙ sym c.own_ground-g.ensures ∙ c.if-g-ne0-2.false in fact)) _ ((let fact : not (eqb c.keeps_of-keep.result 0) ≡ encode_keeps c.args.formats.now c.args.schema.now ((tables_of c.args.lengths.now c.args.places.now c.args.buffers.now c.args.body.now)) c.args.first c.args.n c.args.target c.args.start c.args.end 2 = let z = c.args in keep_by z.formats.now z.schema.now z.target 3 2 (encode_keeps z.formats.now z.schema.now ((tables_of c.args.lengths.now c.args.places.now c.args.buffers.now c.args.body.now)) z.first z.n z.target z.start z.end) _ (omega arith) (omega arith) c.planned-draft.ensures c.keeps_of-keep.ensures in fact))); room_for = subst (λ p. RoomFor z.formats.now z.schema.now (tables z.lengths.now z.places.now z.body.now) z.first z.start z.end z.target p z.parts.now (not (eqb c.keeps_of-keep.result 0)) (length z.room.now)) (sym c.planned-draft.ensures) ((let fact : RoomFor c.args.formats.now c.args.schema.now (tables c.args.lengths.now c.args.places.now c.args.body.now) c.args.first c.args.start c.args.end c.args.target ((encode_plan c.args.formats.now c.args.schema.now ((tables_of c.args.lengths.now c.args.places.now c.args.buffers.now c.args.body.now)) c.args.first c.args.n c.args.target c.args.start c.args.end)) c.args.parts.now (not (eqb c.keeps_of-keep.result 0)) (length c.args.room.now) = let z = c.args in room_for z.formats.now z.schema.now z.lengths.now z.places.now z.buffers.now z.body.now z.first z.n z.target z.start z.end ((let fact : c.args.first < 2 ^ 32 = omega arith in fact)) ((let fact : (j : ℕ) → get_or ((tables_of c.args.lengths.now c.args.places.now c.args.buffers.now c.args.body.now)).body j 0 < 256 = λ j₁. (c.shared_slice_known-6-1.given j₁).fits in fact)) ((let fact : column_ground c.args.formats.now c.args.schema.now ((tables_of c.args.lengths.now c.args.places.now c.args.buffers.now c.args.body.now)) c.args.first c.args.n ≡ 0 = sym c.column_ground-g.ensures ∙ c.if-g-ne0.false in fact)) ((let fact : (encode_own c.args.formats.now c.args.schema.now ((tables_of c.args.lengths.now c.args.places.now c.args.buffers.now c.args.body.now)) c.args.first c.args.n c.args.target c.args.start c.args.end) ≡ 0 = let z = c.args in sym (own_same z.formats.now z.schema.now z.lengths.now z.places.now z.buffers.now z.body.now z.first z.n z.target z.start z.end) ∙ sym c.own_ground-g.ensures ∙ c.if-g-ne0-2.false in fact)) z.parts.now z.room.now (length z.plan.now) (length z.counters.now) _ (not (eqb c.keeps_of-keep.result 0)) ((let fact : not (eqb c.keeps_of-keep.result 0) ≡ encode_keeps c.args.formats.now c.args.schema.now ((tables_of c.args.lengths.now c.args.places.now c.args.buffers.now c.args.body.now)) c.args.first c.args.n c.args.target c.args.start c.args.end 2 = let z = c.args in keep_by z.formats.now z.schema.now z.target 3 2 (encode_keeps z.formats.now z.schema.now ((tables_of c.args.lengths.now c.args.places.now c.args.buffers.now c.args.body.now)) z.first z.n z.target z.start z.end) _ (omega arith) (omega arith) c.planned-draft.ensures c.keeps_of-keep.ensures in fact)) ((let fact : small_body c.args.room.now ≡ true = small_yes c.args.room.now (omega (arith, c.if-room-gt-CEILING.false)) in fact)) (ap (λ k. room_ground ((encode_plan c.args.formats.now c.args.schema.now ((tables_of c.args.lengths.now c.args.places.now c.args.buffers.now c.args.body.now)) c.args.first c.args.n c.args.target c.args.start c.args.end)) k z.parts.now (length z.plan.now) (length z.counters.now) (length z.room.now)) (counters_are z.formats.now z.schema.now z.lengths.now z.places.now z.buffers.now z.body.now z.first z.n z.target z.start z.end ((let fact : c.args.first < 2 ^ 32 = omega arith in fact)) ((let fact : (j : ℕ) → get_or ((tables_of c.args.lengths.now c.args.places.now c.args.buffers.now c.args.body.now)).body j 0 < 256 = λ j₁. (c.shared_slice_known-6-1.given j₁).fits in fact)) ((let fact : column_ground c.args.formats.now c.args.schema.now ((tables_of c.args.lengths.now c.args.places.now c.args.buffers.now c.args.body.now)) c.args.first c.args.n ≡ 0 = sym c.column_ground-g.ensures ∙ c.if-g-ne0.false in fact)) ((let fact : (encode_own c.args.formats.now c.args.schema.now ((tables_of c.args.lengths.now c.args.places.now c.args.buffers.now c.args.body.now)) c.args.first c.args.n c.args.target c.args.start c.args.end) ≡ 0 = let z = c.args in sym (own_same z.formats.now z.schema.now z.lengths.now z.places.now z.buffers.now z.body.now z.first z.n z.target z.start z.end) ∙ sym c.own_ground-g.ensures ∙ c.if-g-ne0-2.false in fact)) _ ((let fact : not (eqb c.keeps_of-keep.result 0) ≡ encode_keeps c.args.formats.now c.args.schema.now ((tables_of c.args.lengths.now c.args.places.now c.args.buffers.now c.args.body.now)) c.args.first c.args.n c.args.target c.args.start c.args.end 2 = let z = c.args in keep_by z.formats.now z.schema.now z.target 3 2 (encode_keeps z.formats.now z.schema.now ((tables_of c.args.lengths.now c.args.places.now c.args.buffers.now c.args.body.now)) z.first z.n z.target z.start z.end) _ (omega arith) (omega arith) c.planned-draft.ensures c.keeps_of-keep.ensures in fact))) ∙ (let fact : room_ground ((encode_plan c.args.formats.now c.args.schema.now ((tables_of c.args.lengths.now c.args.places.now c.args.buffers.now c.args.body.now)) c.args.first c.args.n c.args.target c.args.start c.args.end)) ((encode_out c.args.formats.now c.args.schema.now ((tables_of c.args.lengths.now c.args.places.now c.args.buffers.now c.args.body.now)) c.args.first c.args.n c.args.target c.args.start c.args.end)).counters c.args.parts.now (length c.args.plan.now) (length c.args.counters.now) (length c.args.room.now) ≡ 0 = sym ((let fact : c.runs_ground-g.result ≡ room_ground ((encode_plan c.args.formats.now c.args.schema.now ((tables_of c.args.lengths.now c.args.places.now c.args.buffers.now c.args.body.now)) c.args.first c.args.n c.args.target c.args.start c.args.end)) ((encode_out c.args.formats.now c.args.schema.now ((tables_of c.args.lengths.now c.args.places.now c.args.buffers.now c.args.body.now)) c.args.first c.args.n c.args.target c.args.start c.args.end)).counters c.args.parts.now (length c.args.plan.now) (length c.args.counters.now) (length c.args.room.now) = let z = c.args in c.runs_ground-g.ensures ∙ ap₂ (λ p k. room_ground p k z.parts.now (length z.plan.now) (length z.counters.now) (length z.room.now)) c.planned-draft.ensures (counters_are z.formats.now z.schema.now z.lengths.now z.places.now z.buffers.now z.body.now z.first z.n z.target z.start z.end ((let fact : c.args.first < 2 ^ 32 = omega arith in fact)) ((let fact : (j : ℕ) → get_or ((tables_of c.args.lengths.now c.args.places.now c.args.buffers.now c.args.body.now)).body j 0 < 256 = λ j₁. (c.shared_slice_known-6-1.given j₁).fits in fact)) ((let fact : column_ground c.args.formats.now c.args.schema.now ((tables_of c.args.lengths.now c.args.places.now c.args.buffers.now c.args.body.now)) c.args.first c.args.n ≡ 0 = sym c.column_ground-g.ensures ∙ c.if-g-ne0.false in fact)) ((let fact : (encode_own c.args.formats.now c.args.schema.now ((tables_of c.args.lengths.now c.args.places.now c.args.buffers.now c.args.body.now)) c.args.first c.args.n c.args.target c.args.start c.args.end) ≡ 0 = let z = c.args in sym (own_same z.formats.now z.schema.now z.lengths.now z.places.now z.buffers.now z.body.now z.first z.n z.target z.start z.end) ∙ sym c.own_ground-g.ensures ∙ c.if-g-ne0-2.false in fact)) _ ((let fact : not (eqb c.keeps_of-keep.result 0) ≡ encode_keeps c.args.formats.now c.args.schema.now ((tables_of c.args.lengths.now c.args.places.now c.args.buffers.now c.args.body.now)) c.args.first c.args.n c.args.target c.args.start c.args.end 2 = let z = c.args in keep_by z.formats.now z.schema.now z.target 3 2 (encode_keeps z.formats.now z.schema.now ((tables_of c.args.lengths.now c.args.places.now c.args.buffers.now c.args.body.now)) z.first z.n z.target z.start z.end) _ (omega arith) (omega arith) c.planned-draft.ensures c.keeps_of-keep.ensures in fact))) in fact)) ∙ c.if-g-ne0-3.false in fact)) in fact)) }
+    let x = tables_of z.lengths.now z.places.now z.buffers.now z.body.now in
+    let made = encode_plan z.formats.now z.schema.now x z.first z.n z.target z.start z.end in
+    let answer = encode_out z.formats.now z.schema.now x z.first z.n z.target z.start z.end in
+    let k = kept (goal.at.write-k-requires c).Else-g-ne0-2 in
+    let keeps : not (eqb c.keeps_of-keep.result 0) ≡ encode_keeps z.formats.now z.schema.now x z.first z.n z.target z.start z.end 2 = keep_by z.formats.now z.schema.now z.target 3 2 (encode_keeps z.formats.now z.schema.now x z.first z.n z.target z.start z.end) _ (omega arith) (omega arith) c.planned-draft.ensures c.keeps_of-keep.ensures in
+    let small : small_body z.room.now ≡ true = small_yes z.room.now (omega (arith, c.if-room-gt-CEILING.false)) in
+    let ground_is : c.runs_ground-g.result ≡ room_ground made answer.counters z.parts.now (length z.plan.now) (length z.counters.now) (length z.room.now) = c.runs_ground-g.ensures ∙ ap₂ (λ p k. room_ground p k z.parts.now (length z.plan.now) (length z.counters.now) (length z.room.now)) c.planned-draft.ensures (counters_are z.formats.now z.schema.now z.lengths.now z.places.now z.buffers.now z.body.now z.first z.n z.target z.start z.end k.0 k.1 k.2 k.3 _ keeps) in
+    let room_fits : room_ground made answer.counters z.parts.now (length z.plan.now) (length z.counters.now) (length z.room.now) ≡ 0 = sym ground_is ∙ c.if-g-ne0-3.false in
+    let room_held : RoomFor z.formats.now z.schema.now (tables z.lengths.now z.places.now z.body.now) z.first z.start z.end z.target made z.parts.now (not (eqb c.keeps_of-keep.result 0)) (length z.room.now) = room_for z.formats.now z.schema.now z.lengths.now z.places.now z.buffers.now z.body.now z.first z.n z.target z.start z.end k.0 k.1 k.2 k.3 z.parts.now z.room.now (length z.plan.now) (length z.counters.now) _ (not (eqb c.keeps_of-keep.result 0)) keeps small (ap (λ k. room_ground made k z.parts.now (length z.plan.now) (length z.counters.now) (length z.room.now)) (counters_are z.formats.now z.schema.now z.lengths.now z.places.now z.buffers.now z.body.now z.first z.n z.target z.start z.end k.0 k.1 k.2 k.3 _ keeps) ∙ room_fits) in
+    let u = due z.formats.now z.schema.now z.lengths.now z.places.now z.buffers.now z.body.now z.first z.n z.target z.start z.end k.0 k.1 k.2 k.3 in
+    record { sized = (ends_sized _ (due_width z.formats.now z.schema.now z.first z.target u), codable z.formats.now z.schema.now z.lengths.now z.places.now z.buffers.now z.body.now z.first z.n z.target z.start z.end k.0 k.1 k.2 k.3 _ keeps); room_for = subst (λ p. RoomFor z.formats.now z.schema.now (tables z.lengths.now z.places.now z.body.now) z.first z.start z.end z.target p z.parts.now (not (eqb c.keeps_of-keep.result 0)) (length z.room.now)) (sym c.planned-draft.ensures) room_held }
 
 pub overflow_sub-end : goal.overflow_sub-end
 overflow_sub-end c =
     let z = c.args in
-    let r = (codable z.formats.now z.schema.now z.lengths.now z.places.now z.buffers.now z.body.now z.first z.n z.target z.start z.end ((let fact : c.args.first < 2 ^ 32 = omega arith in fact)) ((let fact : (j : ℕ) → get_or ((tables_of c.args.lengths.now c.args.places.now c.args.buffers.now c.args.body.now)).body j 0 < 256 = λ j₁. (c.shared_slice_known-6-1.given j₁).fits in fact)) ((let fact : column_ground c.args.formats.now c.args.schema.now ((tables_of c.args.lengths.now c.args.places.now c.args.buffers.now c.args.body.now)) c.args.first c.args.n ≡ 0 = sym c.column_ground-g.ensures ∙ c.if-g-ne0.false in fact)) ((let fact : (encode_own c.args.formats.now c.args.schema.now ((tables_of c.args.lengths.now c.args.places.now c.args.buffers.now c.args.body.now)) c.args.first c.args.n c.args.target c.args.start c.args.end) ≡ 0 = let z = c.args in sym (own_same z.formats.now z.schema.now z.lengths.now z.places.now z.buffers.now z.body.now z.first z.n z.target z.start z.end) ∙ sym c.own_ground-g.ensures ∙ c.if-g-ne0-2.false in fact)) _ ((let fact : not (eqb c.keeps_of-keep.result 0) ≡ encode_keeps c.args.formats.now c.args.schema.now ((tables_of c.args.lengths.now c.args.places.now c.args.buffers.now c.args.body.now)) c.args.first c.args.n c.args.target c.args.start c.args.end 2 = let z = c.args in keep_by z.formats.now z.schema.now z.target 3 2 (encode_keeps z.formats.now z.schema.now ((tables_of c.args.lengths.now c.args.places.now c.args.buffers.now c.args.body.now)) z.first z.n z.target z.start z.end) _ (omega arith) (omega arith) c.planned-draft.ensures c.keeps_of-keep.ensures in fact))).in_order_lem in
+    let x = tables_of z.lengths.now z.places.now z.buffers.now z.body.now in
+    let k = kept (goal.at.overflow_sub-end c).Else-g-ne0-2 in
+    let keeps : not (eqb c.keeps_of-keep.result 0) ≡ encode_keeps z.formats.now z.schema.now x z.first z.n z.target z.start z.end 2 = keep_by z.formats.now z.schema.now z.target 3 2 (encode_keeps z.formats.now z.schema.now x z.first z.n z.target z.start z.end) _ (omega arith) (omega arith) c.planned-draft.ensures c.keeps_of-keep.ensures in
+    let r = (codable z.formats.now z.schema.now z.lengths.now z.places.now z.buffers.now z.body.now z.first z.n z.target z.start z.end k.0 k.1 k.2 k.3 _ keeps).in_order_lem in
     omega (arith, r)
 
 pub keep_result-requires : goal.keep_result-requires
 keep_result-requires c =
     let z = c.args in
-    let l = lengths_are (length z.plan.now) (length z.counters.now) (room_free ((encode_plan c.args.formats.now c.args.schema.now ((tables_of c.args.lengths.now c.args.places.now c.args.buffers.now c.args.body.now)) c.args.first c.args.n c.args.target c.args.start c.args.end)) ((encode_out c.args.formats.now c.args.schema.now ((tables_of c.args.lengths.now c.args.places.now c.args.buffers.now c.args.body.now)) c.args.first c.args.n c.args.target c.args.start c.args.end)).counters z.parts.now (length z.plan.now) (length z.counters.now) (length z.room.now) ((let fact : room_ground ((encode_plan c.args.formats.now c.args.schema.now ((tables_of c.args.lengths.now c.args.places.now c.args.buffers.now c.args.body.now)) c.args.first c.args.n c.args.target c.args.start c.args.end)) ((encode_out c.args.formats.now c.args.schema.now ((tables_of c.args.lengths.now c.args.places.now c.args.buffers.now c.args.body.now)) c.args.first c.args.n c.args.target c.args.start c.args.end)).counters c.args.parts.now (length c.args.plan.now) (length c.args.counters.now) (length c.args.room.now) ≡ 0 = sym ((let fact : c.runs_ground-g.result ≡ room_ground ((encode_plan c.args.formats.now c.args.schema.now ((tables_of c.args.lengths.now c.args.places.now c.args.buffers.now c.args.body.now)) c.args.first c.args.n c.args.target c.args.start c.args.end)) ((encode_out c.args.formats.now c.args.schema.now ((tables_of c.args.lengths.now c.args.places.now c.args.buffers.now c.args.body.now)) c.args.first c.args.n c.args.target c.args.start c.args.end)).counters c.args.parts.now (length c.args.plan.now) (length c.args.counters.now) (length c.args.room.now) = let z = c.args in c.runs_ground-g.ensures ∙ ap₂ (λ p k. room_ground p k z.parts.now (length z.plan.now) (length z.counters.now) (length z.room.now)) c.planned-draft.ensures (counters_are z.formats.now z.schema.now z.lengths.now z.places.now z.buffers.now z.body.now z.first z.n z.target z.start z.end ((let fact : c.args.first < 2 ^ 32 = omega arith in fact)) ((let fact : (j : ℕ) → get_or ((tables_of c.args.lengths.now c.args.places.now c.args.buffers.now c.args.body.now)).body j 0 < 256 = λ j₁. (c.shared_slice_known-6-1.given j₁).fits in fact)) ((let fact : column_ground c.args.formats.now c.args.schema.now ((tables_of c.args.lengths.now c.args.places.now c.args.buffers.now c.args.body.now)) c.args.first c.args.n ≡ 0 = sym c.column_ground-g.ensures ∙ c.if-g-ne0.false in fact)) ((let fact : (encode_own c.args.formats.now c.args.schema.now ((tables_of c.args.lengths.now c.args.places.now c.args.buffers.now c.args.body.now)) c.args.first c.args.n c.args.target c.args.start c.args.end) ≡ 0 = let z = c.args in sym (own_same z.formats.now z.schema.now z.lengths.now z.places.now z.buffers.now z.body.now z.first z.n z.target z.start z.end) ∙ sym c.own_ground-g.ensures ∙ c.if-g-ne0-2.false in fact)) _ ((let fact : not (eqb c.keeps_of-keep.result 0) ≡ encode_keeps c.args.formats.now c.args.schema.now ((tables_of c.args.lengths.now c.args.places.now c.args.buffers.now c.args.body.now)) c.args.first c.args.n c.args.target c.args.start c.args.end 2 = let z = c.args in keep_by z.formats.now z.schema.now z.target 3 2 (encode_keeps z.formats.now z.schema.now ((tables_of c.args.lengths.now c.args.places.now c.args.buffers.now c.args.body.now)) z.first z.n z.target z.start z.end) _ (omega arith) (omega arith) c.planned-draft.ensures c.keeps_of-keep.ensures in fact))) in fact)) ∙ c.if-g-ne0-3.false in fact))).lengths in
+    let x = tables_of z.lengths.now z.places.now z.buffers.now z.body.now in
+    let made = encode_plan z.formats.now z.schema.now x z.first z.n z.target z.start z.end in
+    let answer = encode_out z.formats.now z.schema.now x z.first z.n z.target z.start z.end in
+    let k = kept (goal.at.keep_result-requires c).Else-g-ne0-2 in
+    let keeps : not (eqb c.keeps_of-keep.result 0) ≡ encode_keeps z.formats.now z.schema.now x z.first z.n z.target z.start z.end 2 = keep_by z.formats.now z.schema.now z.target 3 2 (encode_keeps z.formats.now z.schema.now x z.first z.n z.target z.start z.end) _ (omega arith) (omega arith) c.planned-draft.ensures c.keeps_of-keep.ensures in
+    let ground_is : c.runs_ground-g.result ≡ room_ground made answer.counters z.parts.now (length z.plan.now) (length z.counters.now) (length z.room.now) = c.runs_ground-g.ensures ∙ ap₂ (λ p k. room_ground p k z.parts.now (length z.plan.now) (length z.counters.now) (length z.room.now)) c.planned-draft.ensures (counters_are z.formats.now z.schema.now z.lengths.now z.places.now z.buffers.now z.body.now z.first z.n z.target z.start z.end k.0 k.1 k.2 k.3 _ keeps) in
+    let room_fits : room_ground made answer.counters z.parts.now (length z.plan.now) (length z.counters.now) (length z.room.now) ≡ 0 = sym ground_is ∙ c.if-g-ne0-3.false in
+    let l = lengths_are (length z.plan.now) (length z.counters.now) (room_free made answer.counters z.parts.now (length z.plan.now) (length z.counters.now) (length z.room.now) room_fits).lengths in
     (l.0, l.1, ap length c.planned-draft.ensures ∙ plan_length z.formats.now z.schema.now z.target 3 _ _ 0 (omega arith), ap length c.counters_of-tally.ensures)
 
 pub returns : goal.returns
 returns c =
     let z = c.args in
-    answers_made z.formats.now z.schema.now ((tables_of c.args.lengths.now c.args.places.now c.args.buffers.now c.args.body.now)) z.first z.n ((encode_own c.args.formats.now c.args.schema.now ((tables_of c.args.lengths.now c.args.places.now c.args.buffers.now c.args.body.now)) c.args.first c.args.n c.args.target c.args.start c.args.end)) ((encode_plan c.args.formats.now c.args.schema.now ((tables_of c.args.lengths.now c.args.places.now c.args.buffers.now c.args.body.now)) c.args.first c.args.n c.args.target c.args.start c.args.end)) ((encode_out c.args.formats.now c.args.schema.now ((tables_of c.args.lengths.now c.args.places.now c.args.buffers.now c.args.body.now)) c.args.first c.args.n c.args.target c.args.start c.args.end)) z.parts.now z.plan.now z.counters.now z.room.now ((let fact : small_body c.args.room.now ≡ true = small_yes c.args.room.now (omega (arith, c.if-room-gt-CEILING.false)) in fact)) ((let fact : ahead c.args.formats.now c.args.schema.now ((tables_of c.args.lengths.now c.args.places.now c.args.buffers.now c.args.body.now)) c.args.first c.args.n ((encode_own c.args.formats.now c.args.schema.now ((tables_of c.args.lengths.now c.args.places.now c.args.buffers.now c.args.body.now)) c.args.first c.args.n c.args.target c.args.start c.args.end)) ((encode_plan c.args.formats.now c.args.schema.now ((tables_of c.args.lengths.now c.args.places.now c.args.buffers.now c.args.body.now)) c.args.first c.args.n c.args.target c.args.start c.args.end)) ((encode_out c.args.formats.now c.args.schema.now ((tables_of c.args.lengths.now c.args.places.now c.args.buffers.now c.args.body.now)) c.args.first c.args.n c.args.target c.args.start c.args.end)) ≡ 0 = let z = c.args in none_before z.formats.now z.schema.now z.lengths.now z.places.now z.buffers.now z.body.now z.first z.n z.target z.start z.end ((let fact : c.args.first < 2 ^ 32 = omega arith in fact)) ((let fact : (j : ℕ) → get_or ((tables_of c.args.lengths.now c.args.places.now c.args.buffers.now c.args.body.now)).body j 0 < 256 = λ j₁. (c.shared_slice_known-6-1.given j₁).fits in fact)) ((let fact : column_ground c.args.formats.now c.args.schema.now ((tables_of c.args.lengths.now c.args.places.now c.args.buffers.now c.args.body.now)) c.args.first c.args.n ≡ 0 = sym c.column_ground-g.ensures ∙ c.if-g-ne0.false in fact)) ((let fact : (encode_own c.args.formats.now c.args.schema.now ((tables_of c.args.lengths.now c.args.places.now c.args.buffers.now c.args.body.now)) c.args.first c.args.n c.args.target c.args.start c.args.end) ≡ 0 = let z = c.args in sym (own_same z.formats.now z.schema.now z.lengths.now z.places.now z.buffers.now z.body.now z.first z.n z.target z.start z.end) ∙ sym c.own_ground-g.ensures ∙ c.if-g-ne0-2.false in fact)) in fact)) ((let fact : room_ground ((encode_plan c.args.formats.now c.args.schema.now ((tables_of c.args.lengths.now c.args.places.now c.args.buffers.now c.args.body.now)) c.args.first c.args.n c.args.target c.args.start c.args.end)) ((encode_out c.args.formats.now c.args.schema.now ((tables_of c.args.lengths.now c.args.places.now c.args.buffers.now c.args.body.now)) c.args.first c.args.n c.args.target c.args.start c.args.end)).counters c.args.parts.now (length c.args.plan.now) (length c.args.counters.now) (length c.args.room.now) ≡ 0 = sym ((let fact : c.runs_ground-g.result ≡ room_ground ((encode_plan c.args.formats.now c.args.schema.now ((tables_of c.args.lengths.now c.args.places.now c.args.buffers.now c.args.body.now)) c.args.first c.args.n c.args.target c.args.start c.args.end)) ((encode_out c.args.formats.now c.args.schema.now ((tables_of c.args.lengths.now c.args.places.now c.args.buffers.now c.args.body.now)) c.args.first c.args.n c.args.target c.args.start c.args.end)).counters c.args.parts.now (length c.args.plan.now) (length c.args.counters.now) (length c.args.room.now) = let z = c.args in c.runs_ground-g.ensures ∙ ap₂ (λ p k. room_ground p k z.parts.now (length z.plan.now) (length z.counters.now) (length z.room.now)) c.planned-draft.ensures (counters_are z.formats.now z.schema.now z.lengths.now z.places.now z.buffers.now z.body.now z.first z.n z.target z.start z.end ((let fact : c.args.first < 2 ^ 32 = omega arith in fact)) ((let fact : (j : ℕ) → get_or ((tables_of c.args.lengths.now c.args.places.now c.args.buffers.now c.args.body.now)).body j 0 < 256 = λ j₁. (c.shared_slice_known-6-1.given j₁).fits in fact)) ((let fact : column_ground c.args.formats.now c.args.schema.now ((tables_of c.args.lengths.now c.args.places.now c.args.buffers.now c.args.body.now)) c.args.first c.args.n ≡ 0 = sym c.column_ground-g.ensures ∙ c.if-g-ne0.false in fact)) ((let fact : (encode_own c.args.formats.now c.args.schema.now ((tables_of c.args.lengths.now c.args.places.now c.args.buffers.now c.args.body.now)) c.args.first c.args.n c.args.target c.args.start c.args.end) ≡ 0 = let z = c.args in sym (own_same z.formats.now z.schema.now z.lengths.now z.places.now z.buffers.now z.body.now z.first z.n z.target z.start z.end) ∙ sym c.own_ground-g.ensures ∙ c.if-g-ne0-2.false in fact)) _ ((let fact : not (eqb c.keeps_of-keep.result 0) ≡ encode_keeps c.args.formats.now c.args.schema.now ((tables_of c.args.lengths.now c.args.places.now c.args.buffers.now c.args.body.now)) c.args.first c.args.n c.args.target c.args.start c.args.end 2 = let z = c.args in keep_by z.formats.now z.schema.now z.target 3 2 (encode_keeps z.formats.now z.schema.now ((tables_of c.args.lengths.now c.args.places.now c.args.buffers.now c.args.body.now)) z.first z.n z.target z.start z.end) _ (omega arith) (omega arith) c.planned-draft.ensures c.keeps_of-keep.ensures in fact))) in fact)) ∙ c.if-g-ne0-3.false in fact)) refl
+    let x = tables_of z.lengths.now z.places.now z.buffers.now z.body.now in
+    let ground = encode_own z.formats.now z.schema.now x z.first z.n z.target z.start z.end in
+    let made = encode_plan z.formats.now z.schema.now x z.first z.n z.target z.start z.end in
+    let answer = encode_out z.formats.now z.schema.now x z.first z.n z.target z.start z.end in
+    let k = kept (goal.at.returns c).Else-g-ne0-2 in
+    let small : small_body z.room.now ≡ true = small_yes z.room.now (omega (arith, c.if-room-gt-CEILING.false)) in
+    let none_ahead : ahead z.formats.now z.schema.now x z.first z.n ground made answer ≡ 0 = none_before z.formats.now z.schema.now z.lengths.now z.places.now z.buffers.now z.body.now z.first z.n z.target z.start z.end k.0 k.1 k.2 k.3 in
+    let keeps : not (eqb c.keeps_of-keep.result 0) ≡ encode_keeps z.formats.now z.schema.now x z.first z.n z.target z.start z.end 2 = keep_by z.formats.now z.schema.now z.target 3 2 (encode_keeps z.formats.now z.schema.now x z.first z.n z.target z.start z.end) _ (omega arith) (omega arith) c.planned-draft.ensures c.keeps_of-keep.ensures in
+    let ground_is : c.runs_ground-g.result ≡ room_ground made answer.counters z.parts.now (length z.plan.now) (length z.counters.now) (length z.room.now) = c.runs_ground-g.ensures ∙ ap₂ (λ p k. room_ground p k z.parts.now (length z.plan.now) (length z.counters.now) (length z.room.now)) c.planned-draft.ensures (counters_are z.formats.now z.schema.now z.lengths.now z.places.now z.buffers.now z.body.now z.first z.n z.target z.start z.end k.0 k.1 k.2 k.3 _ keeps) in
+    let room_fits : room_ground made answer.counters z.parts.now (length z.plan.now) (length z.counters.now) (length z.room.now) ≡ 0 = sym ground_is ∙ c.if-g-ne0-3.false in
+    let counted : c.counters_of-tally.result ≡ answer.counters = c.counters_of-tally.ensures ∙ ap (all_counts (z.end - z.start)) c.write-k.ensures.value ∙ counters_are z.formats.now z.schema.now z.lengths.now z.places.now z.buffers.now z.body.now z.first z.n z.target z.start z.end k.0 k.1 k.2 k.3 _ keeps in
+    let room_held : RoomFor z.formats.now z.schema.now (tables z.lengths.now z.places.now z.body.now) z.first z.start z.end z.target made z.parts.now (not (eqb c.keeps_of-keep.result 0)) (length z.room.now) = room_for z.formats.now z.schema.now z.lengths.now z.places.now z.buffers.now z.body.now z.first z.n z.target z.start z.end k.0 k.1 k.2 k.3 z.parts.now z.room.now (length z.plan.now) (length z.counters.now) _ (not (eqb c.keeps_of-keep.result 0)) keeps small (ap (λ k. room_ground made k z.parts.now (length z.plan.now) (length z.counters.now) (length z.room.now)) (counters_are z.formats.now z.schema.now z.lengths.now z.places.now z.buffers.now z.body.now z.first z.n z.target z.start z.end k.0 k.1 k.2 k.3 _ keeps) ∙ room_fits) in
+    answers_made z.formats.now z.schema.now x z.first z.n ground made answer z.parts.now z.plan.now z.counters.now z.room.now small none_ahead room_fits refl
     (c.keep_result.ensures.plan_after ∙ c.planned-draft.ensures)
-    (c.keep_result.ensures.counters_after ∙ (let fact : c.counters_of-tally.result ≡ ((encode_out c.args.formats.now c.args.schema.now ((tables_of c.args.lengths.now c.args.places.now c.args.buffers.now c.args.body.now)) c.args.first c.args.n c.args.target c.args.start c.args.end)).counters = let z = c.args in c.counters_of-tally.ensures ∙ ap (all_counts (z.end - z.start)) c.write-k.ensures.value ∙ counters_are z.formats.now z.schema.now z.lengths.now z.places.now z.buffers.now z.body.now z.first z.n z.target z.start z.end ((let fact : c.args.first < 2 ^ 32 = omega arith in fact)) ((let fact : (j : ℕ) → get_or ((tables_of c.args.lengths.now c.args.places.now c.args.buffers.now c.args.body.now)).body j 0 < 256 = λ j₁. (c.shared_slice_known-6-1.given j₁).fits in fact)) ((let fact : column_ground c.args.formats.now c.args.schema.now ((tables_of c.args.lengths.now c.args.places.now c.args.buffers.now c.args.body.now)) c.args.first c.args.n ≡ 0 = sym c.column_ground-g.ensures ∙ c.if-g-ne0.false in fact)) ((let fact : (encode_own c.args.formats.now c.args.schema.now ((tables_of c.args.lengths.now c.args.places.now c.args.buffers.now c.args.body.now)) c.args.first c.args.n c.args.target c.args.start c.args.end) ≡ 0 = let z = c.args in sym (own_same z.formats.now z.schema.now z.lengths.now z.places.now z.buffers.now z.body.now z.first z.n z.target z.start z.end) ∙ sym c.own_ground-g.ensures ∙ c.if-g-ne0-2.false in fact)) _ ((let fact : not (eqb c.keeps_of-keep.result 0) ≡ encode_keeps c.args.formats.now c.args.schema.now ((tables_of c.args.lengths.now c.args.places.now c.args.buffers.now c.args.body.now)) c.args.first c.args.n c.args.target c.args.start c.args.end 2 = let z = c.args in keep_by z.formats.now z.schema.now z.target 3 2 (encode_keeps z.formats.now z.schema.now ((tables_of c.args.lengths.now c.args.places.now c.args.buffers.now c.args.body.now)) z.first z.n z.target z.start z.end) _ (omega arith) (omega arith) c.planned-draft.ensures c.keeps_of-keep.ensures in fact)) in fact))
+    (c.keep_result.ensures.counters_after ∙ counted)
     (c.write-k.ensures.room_value
     ∙ ap (λ p. runs_in z.formats.now z.schema.now (tables z.lengths.now z.places.now z.body.now) z.first z.start z.end z.target p z.parts.now (not (eqb c.keeps_of-keep.result 0)) z.room.now) c.planned-draft.ensures
-    ∙ room_is z.formats.now z.schema.now z.lengths.now z.places.now z.buffers.now z.body.now z.first z.n z.target z.start z.end ((let fact : c.args.first < 2 ^ 32 = omega arith in fact)) ((let fact : (j : ℕ) → get_or ((tables_of c.args.lengths.now c.args.places.now c.args.buffers.now c.args.body.now)).body j 0 < 256 = λ j₁. (c.shared_slice_known-6-1.given j₁).fits in fact)) ((let fact : column_ground c.args.formats.now c.args.schema.now ((tables_of c.args.lengths.now c.args.places.now c.args.buffers.now c.args.body.now)) c.args.first c.args.n ≡ 0 = sym c.column_ground-g.ensures ∙ c.if-g-ne0.false in fact)) ((let fact : (encode_own c.args.formats.now c.args.schema.now ((tables_of c.args.lengths.now c.args.places.now c.args.buffers.now c.args.body.now)) c.args.first c.args.n c.args.target c.args.start c.args.end) ≡ 0 = let z = c.args in sym (own_same z.formats.now z.schema.now z.lengths.now z.places.now z.buffers.now z.body.now z.first z.n z.target z.start z.end) ∙ sym c.own_ground-g.ensures ∙ c.if-g-ne0-2.false in fact)) (not (eqb c.keeps_of-keep.result 0)) ((let fact : not (eqb c.keeps_of-keep.result 0) ≡ encode_keeps c.args.formats.now c.args.schema.now ((tables_of c.args.lengths.now c.args.places.now c.args.buffers.now c.args.body.now)) c.args.first c.args.n c.args.target c.args.start c.args.end 2 = let z = c.args in keep_by z.formats.now z.schema.now z.target 3 2 (encode_keeps z.formats.now z.schema.now ((tables_of c.args.lengths.now c.args.places.now c.args.buffers.now c.args.body.now)) z.first z.n z.target z.start z.end) _ (omega arith) (omega arith) c.planned-draft.ensures c.keeps_of-keep.ensures in fact)) ((encode_plan c.args.formats.now c.args.schema.now ((tables_of c.args.lengths.now c.args.places.now c.args.buffers.now c.args.body.now)) c.args.first c.args.n c.args.target c.args.start c.args.end)) z.parts.now z.room.now ((let fact : RoomFor c.args.formats.now c.args.schema.now (tables c.args.lengths.now c.args.places.now c.args.body.now) c.args.first c.args.start c.args.end c.args.target ((encode_plan c.args.formats.now c.args.schema.now ((tables_of c.args.lengths.now c.args.places.now c.args.buffers.now c.args.body.now)) c.args.first c.args.n c.args.target c.args.start c.args.end)) c.args.parts.now (not (eqb c.keeps_of-keep.result 0)) (length c.args.room.now) = let z = c.args in room_for z.formats.now z.schema.now z.lengths.now z.places.now z.buffers.now z.body.now z.first z.n z.target z.start z.end ((let fact : c.args.first < 2 ^ 32 = omega arith in fact)) ((let fact : (j : ℕ) → get_or ((tables_of c.args.lengths.now c.args.places.now c.args.buffers.now c.args.body.now)).body j 0 < 256 = λ j₁. (c.shared_slice_known-6-1.given j₁).fits in fact)) ((let fact : column_ground c.args.formats.now c.args.schema.now ((tables_of c.args.lengths.now c.args.places.now c.args.buffers.now c.args.body.now)) c.args.first c.args.n ≡ 0 = sym c.column_ground-g.ensures ∙ c.if-g-ne0.false in fact)) ((let fact : (encode_own c.args.formats.now c.args.schema.now ((tables_of c.args.lengths.now c.args.places.now c.args.buffers.now c.args.body.now)) c.args.first c.args.n c.args.target c.args.start c.args.end) ≡ 0 = let z = c.args in sym (own_same z.formats.now z.schema.now z.lengths.now z.places.now z.buffers.now z.body.now z.first z.n z.target z.start z.end) ∙ sym c.own_ground-g.ensures ∙ c.if-g-ne0-2.false in fact)) z.parts.now z.room.now (length z.plan.now) (length z.counters.now) _ (not (eqb c.keeps_of-keep.result 0)) ((let fact : not (eqb c.keeps_of-keep.result 0) ≡ encode_keeps c.args.formats.now c.args.schema.now ((tables_of c.args.lengths.now c.args.places.now c.args.buffers.now c.args.body.now)) c.args.first c.args.n c.args.target c.args.start c.args.end 2 = let z = c.args in keep_by z.formats.now z.schema.now z.target 3 2 (encode_keeps z.formats.now z.schema.now ((tables_of c.args.lengths.now c.args.places.now c.args.buffers.now c.args.body.now)) z.first z.n z.target z.start z.end) _ (omega arith) (omega arith) c.planned-draft.ensures c.keeps_of-keep.ensures in fact)) ((let fact : small_body c.args.room.now ≡ true = small_yes c.args.room.now (omega (arith, c.if-room-gt-CEILING.false)) in fact)) (ap (λ k. room_ground ((encode_plan c.args.formats.now c.args.schema.now ((tables_of c.args.lengths.now c.args.places.now c.args.buffers.now c.args.body.now)) c.args.first c.args.n c.args.target c.args.start c.args.end)) k z.parts.now (length z.plan.now) (length z.counters.now) (length z.room.now)) (counters_are z.formats.now z.schema.now z.lengths.now z.places.now z.buffers.now z.body.now z.first z.n z.target z.start z.end ((let fact : c.args.first < 2 ^ 32 = omega arith in fact)) ((let fact : (j : ℕ) → get_or ((tables_of c.args.lengths.now c.args.places.now c.args.buffers.now c.args.body.now)).body j 0 < 256 = λ j₁. (c.shared_slice_known-6-1.given j₁).fits in fact)) ((let fact : column_ground c.args.formats.now c.args.schema.now ((tables_of c.args.lengths.now c.args.places.now c.args.buffers.now c.args.body.now)) c.args.first c.args.n ≡ 0 = sym c.column_ground-g.ensures ∙ c.if-g-ne0.false in fact)) ((let fact : (encode_own c.args.formats.now c.args.schema.now ((tables_of c.args.lengths.now c.args.places.now c.args.buffers.now c.args.body.now)) c.args.first c.args.n c.args.target c.args.start c.args.end) ≡ 0 = let z = c.args in sym (own_same z.formats.now z.schema.now z.lengths.now z.places.now z.buffers.now z.body.now z.first z.n z.target z.start z.end) ∙ sym c.own_ground-g.ensures ∙ c.if-g-ne0-2.false in fact)) _ ((let fact : not (eqb c.keeps_of-keep.result 0) ≡ encode_keeps c.args.formats.now c.args.schema.now ((tables_of c.args.lengths.now c.args.places.now c.args.buffers.now c.args.body.now)) c.args.first c.args.n c.args.target c.args.start c.args.end 2 = let z = c.args in keep_by z.formats.now z.schema.now z.target 3 2 (encode_keeps z.formats.now z.schema.now ((tables_of c.args.lengths.now c.args.places.now c.args.buffers.now c.args.body.now)) z.first z.n z.target z.start z.end) _ (omega arith) (omega arith) c.planned-draft.ensures c.keeps_of-keep.ensures in fact))) ∙ (let fact : room_ground ((encode_plan c.args.formats.now c.args.schema.now ((tables_of c.args.lengths.now c.args.places.now c.args.buffers.now c.args.body.now)) c.args.first c.args.n c.args.target c.args.start c.args.end)) ((encode_out c.args.formats.now c.args.schema.now ((tables_of c.args.lengths.now c.args.places.now c.args.buffers.now c.args.body.now)) c.args.first c.args.n c.args.target c.args.start c.args.end)).counters c.args.parts.now (length c.args.plan.now) (length c.args.counters.now) (length c.args.room.now) ≡ 0 = sym ((let fact : c.runs_ground-g.result ≡ room_ground ((encode_plan c.args.formats.now c.args.schema.now ((tables_of c.args.lengths.now c.args.places.now c.args.buffers.now c.args.body.now)) c.args.first c.args.n c.args.target c.args.start c.args.end)) ((encode_out c.args.formats.now c.args.schema.now ((tables_of c.args.lengths.now c.args.places.now c.args.buffers.now c.args.body.now)) c.args.first c.args.n c.args.target c.args.start c.args.end)).counters c.args.parts.now (length c.args.plan.now) (length c.args.counters.now) (length c.args.room.now) = let z = c.args in c.runs_ground-g.ensures ∙ ap₂ (λ p k. room_ground p k z.parts.now (length z.plan.now) (length z.counters.now) (length z.room.now)) c.planned-draft.ensures (counters_are z.formats.now z.schema.now z.lengths.now z.places.now z.buffers.now z.body.now z.first z.n z.target z.start z.end ((let fact : c.args.first < 2 ^ 32 = omega arith in fact)) ((let fact : (j : ℕ) → get_or ((tables_of c.args.lengths.now c.args.places.now c.args.buffers.now c.args.body.now)).body j 0 < 256 = λ j₁. (c.shared_slice_known-6-1.given j₁).fits in fact)) ((let fact : column_ground c.args.formats.now c.args.schema.now ((tables_of c.args.lengths.now c.args.places.now c.args.buffers.now c.args.body.now)) c.args.first c.args.n ≡ 0 = sym c.column_ground-g.ensures ∙ c.if-g-ne0.false in fact)) ((let fact : (encode_own c.args.formats.now c.args.schema.now ((tables_of c.args.lengths.now c.args.places.now c.args.buffers.now c.args.body.now)) c.args.first c.args.n c.args.target c.args.start c.args.end) ≡ 0 = let z = c.args in sym (own_same z.formats.now z.schema.now z.lengths.now z.places.now z.buffers.now z.body.now z.first z.n z.target z.start z.end) ∙ sym c.own_ground-g.ensures ∙ c.if-g-ne0-2.false in fact)) _ ((let fact : not (eqb c.keeps_of-keep.result 0) ≡ encode_keeps c.args.formats.now c.args.schema.now ((tables_of c.args.lengths.now c.args.places.now c.args.buffers.now c.args.body.now)) c.args.first c.args.n c.args.target c.args.start c.args.end 2 = let z = c.args in keep_by z.formats.now z.schema.now z.target 3 2 (encode_keeps z.formats.now z.schema.now ((tables_of c.args.lengths.now c.args.places.now c.args.buffers.now c.args.body.now)) z.first z.n z.target z.start z.end) _ (omega arith) (omega arith) c.planned-draft.ensures c.keeps_of-keep.ensures in fact))) in fact)) ∙ c.if-g-ne0-3.false in fact)) in fact)))
+    ∙ room_is z.formats.now z.schema.now z.lengths.now z.places.now z.buffers.now z.body.now z.first z.n z.target z.start z.end k.0 k.1 k.2 k.3 (not (eqb c.keeps_of-keep.result 0)) keeps made z.parts.now z.room.now room_held)

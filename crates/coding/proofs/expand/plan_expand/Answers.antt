@@ -11,49 +11,94 @@ use Rattle.coding.specs.Expand.{expand_own, expand_plan, expand_out}
 use Rattle.coding.proofs.Runs.{own_same, none_before}
 use Rattle.coding.proofs.Expanded.{target_plain, ranged, come, counters_are}
 use Rattle.coding.proofs.Asked.{lengths_first, lengths_second, lengths_both}
+use Rattle.coding.proofs.expand.plan_expand.Goals.{Else-g-ne0-2}
 use Rattle.coding.proofs.expand.plan_expand.Goals as goal
+
+-- what the refusals leave: the body has bytes, the column is well formed, and the call's own grounds hold
+kept : (c : Else-g-ne0-2) → let z = c.args in let x = tables_of z.lengths.now z.places.now z.buffers.now z.body.now in
+    (z.first < 2 ^ 32)
+    × ((j : ℕ) → get_or z.body.now j 0 < 256)
+    × (column_ground z.formats.now z.schema.now x z.first z.n ≡ 0)
+    × (expand_own z.formats.now z.schema.now x z.first z.n z.target z.start z.end ≡ 0)
+kept c =
+    let z = c.args in (
+      omega arith,
+      λ j. (c.shared_slice_known-6-1.given j).fits,
+      sym c.column_ground-g.ensures ∙ c.if-g-ne0.false,
+      sym (own_same z.formats.now z.schema.now z.lengths.now z.places.now z.buffers.now z.body.now z.first z.n z.target z.start z.end) ∙ sym c.own_ground-g.ensures ∙ c.if-g-ne0-2.false,
+    )
 
 pub returns-then-g-ne0 : goal.returns-then-g-ne0
 returns-then-g-ne0 c =
     let z = c.args in
-    asks_refused z.formats.now z.schema.now ((tables_of c.args.lengths.now c.args.places.now c.args.buffers.now c.args.body.now)) z.first z.n ((expand_own c.args.formats.now c.args.schema.now ((tables_of c.args.lengths.now c.args.places.now c.args.buffers.now c.args.body.now)) c.args.first c.args.n c.args.target c.args.start c.args.end)) ((expand_plan c.args.formats.now c.args.schema.now ((tables_of c.args.lengths.now c.args.places.now c.args.buffers.now c.args.body.now)) c.args.first c.args.n c.args.target c.args.start c.args.end)) ((expand_out c.args.formats.now c.args.schema.now ((tables_of c.args.lengths.now c.args.places.now c.args.buffers.now c.args.body.now)) c.args.first c.args.n c.args.target c.args.start c.args.end)) z.plan.now z.counters.now (before_column z.formats.now z.schema.now ((tables_of c.args.lengths.now c.args.places.now c.args.buffers.now c.args.body.now)) z.first z.n ((expand_own c.args.formats.now c.args.schema.now ((tables_of c.args.lengths.now c.args.places.now c.args.buffers.now c.args.body.now)) c.args.first c.args.n c.args.target c.args.start c.args.end)) ((expand_plan c.args.formats.now c.args.schema.now ((tables_of c.args.lengths.now c.args.places.now c.args.buffers.now c.args.body.now)) c.args.first c.args.n c.args.target c.args.start c.args.end)) ((expand_out c.args.formats.now c.args.schema.now ((tables_of c.args.lengths.now c.args.places.now c.args.buffers.now c.args.body.now)) c.args.first c.args.n c.args.target c.args.start c.args.end)) c.column_ground-g.ensures c.if-g-ne0.true) c.if-g-ne0.true
+    let x = tables_of z.lengths.now z.places.now z.buffers.now z.body.now in
+    let ground = expand_own z.formats.now z.schema.now x z.first z.n z.target z.start z.end in
+    let made = expand_plan z.formats.now z.schema.now x z.first z.n z.target z.start z.end in
+    let answer = expand_out z.formats.now z.schema.now x z.first z.n z.target z.start z.end in
+    asks_refused z.formats.now z.schema.now x z.first z.n ground made answer z.plan.now z.counters.now (before_column z.formats.now z.schema.now x z.first z.n ground made answer c.column_ground-g.ensures c.if-g-ne0.true) c.if-g-ne0.true
 
 pub returns-then-g-ne0-2 : goal.returns-then-g-ne0-2
 returns-then-g-ne0-2 c =
     let z = c.args in
+    let x = tables_of z.lengths.now z.places.now z.buffers.now z.body.now in
+    let ground = expand_own z.formats.now z.schema.now x z.first z.n z.target z.start z.end in
+    let made = expand_plan z.formats.now z.schema.now x z.first z.n z.target z.start z.end in
+    let answer = expand_out z.formats.now z.schema.now x z.first z.n z.target z.start z.end in
     let e = c.own_ground-g.ensures ∙ own_same z.formats.now z.schema.now z.lengths.now z.places.now z.buffers.now z.body.now z.first z.n z.target z.start z.end in
-    asks_refused z.formats.now z.schema.now ((tables_of c.args.lengths.now c.args.places.now c.args.buffers.now c.args.body.now)) z.first z.n ((expand_own c.args.formats.now c.args.schema.now ((tables_of c.args.lengths.now c.args.places.now c.args.buffers.now c.args.body.now)) c.args.first c.args.n c.args.target c.args.start c.args.end)) ((expand_plan c.args.formats.now c.args.schema.now ((tables_of c.args.lengths.now c.args.places.now c.args.buffers.now c.args.body.now)) c.args.first c.args.n c.args.target c.args.start c.args.end)) ((expand_out c.args.formats.now c.args.schema.now ((tables_of c.args.lengths.now c.args.places.now c.args.buffers.now c.args.body.now)) c.args.first c.args.n c.args.target c.args.start c.args.end)) z.plan.now z.counters.now (before_own z.formats.now z.schema.now ((tables_of c.args.lengths.now c.args.places.now c.args.buffers.now c.args.body.now)) z.first z.n ((expand_own c.args.formats.now c.args.schema.now ((tables_of c.args.lengths.now c.args.places.now c.args.buffers.now c.args.body.now)) c.args.first c.args.n c.args.target c.args.start c.args.end)) ((expand_plan c.args.formats.now c.args.schema.now ((tables_of c.args.lengths.now c.args.places.now c.args.buffers.now c.args.body.now)) c.args.first c.args.n c.args.target c.args.start c.args.end)) ((expand_out c.args.formats.now c.args.schema.now ((tables_of c.args.lengths.now c.args.places.now c.args.buffers.now c.args.body.now)) c.args.first c.args.n c.args.target c.args.start c.args.end)) (sym c.column_ground-g.ensures ∙ c.if-g-ne0.false) e c.if-g-ne0-2.true) c.if-g-ne0-2.true
+    asks_refused z.formats.now z.schema.now x z.first z.n ground made answer z.plan.now z.counters.now (before_own z.formats.now z.schema.now x z.first z.n ground made answer (sym c.column_ground-g.ensures ∙ c.if-g-ne0.false) e c.if-g-ne0-2.true) c.if-g-ne0-2.true
 
 pub returns-then-plan-ne-WORDS : goal.returns-then-plan-ne-WORDS
 returns-then-plan-ne-WORDS c =
     let z = c.args in
-    asks_lengths z.formats.now z.schema.now ((tables_of c.args.lengths.now c.args.places.now c.args.buffers.now c.args.body.now)) z.first z.n ((expand_own c.args.formats.now c.args.schema.now ((tables_of c.args.lengths.now c.args.places.now c.args.buffers.now c.args.body.now)) c.args.first c.args.n c.args.target c.args.start c.args.end)) ((expand_plan c.args.formats.now c.args.schema.now ((tables_of c.args.lengths.now c.args.places.now c.args.buffers.now c.args.body.now)) c.args.first c.args.n c.args.target c.args.start c.args.end)) ((expand_out c.args.formats.now c.args.schema.now ((tables_of c.args.lengths.now c.args.places.now c.args.buffers.now c.args.body.now)) c.args.first c.args.n c.args.target c.args.start c.args.end)) z.plan.now z.counters.now ((let fact : ahead c.args.formats.now c.args.schema.now ((tables_of c.args.lengths.now c.args.places.now c.args.buffers.now c.args.body.now)) c.args.first c.args.n ((expand_own c.args.formats.now c.args.schema.now ((tables_of c.args.lengths.now c.args.places.now c.args.buffers.now c.args.body.now)) c.args.first c.args.n c.args.target c.args.start c.args.end)) ((expand_plan c.args.formats.now c.args.schema.now ((tables_of c.args.lengths.now c.args.places.now c.args.buffers.now c.args.body.now)) c.args.first c.args.n c.args.target c.args.start c.args.end)) ((expand_out c.args.formats.now c.args.schema.now ((tables_of c.args.lengths.now c.args.places.now c.args.buffers.now c.args.body.now)) c.args.first c.args.n c.args.target c.args.start c.args.end)) ≡ 0 = let z = c.args in none_before z.formats.now z.schema.now z.lengths.now z.places.now z.buffers.now z.body.now z.first z.n z.target z.start z.end ((let fact : c.args.first < 2 ^ 32 = omega arith in fact)) ((let fact : (j : ℕ) → get_or ((tables_of c.args.lengths.now c.args.places.now c.args.buffers.now c.args.body.now)).body j 0 < 256 = λ j₁. (c.shared_slice_known-6-1.given j₁).fits in fact)) ((let fact : column_ground c.args.formats.now c.args.schema.now ((tables_of c.args.lengths.now c.args.places.now c.args.buffers.now c.args.body.now)) c.args.first c.args.n ≡ 0 = sym c.column_ground-g.ensures ∙ c.if-g-ne0.false in fact)) ((let fact : (expand_own c.args.formats.now c.args.schema.now ((tables_of c.args.lengths.now c.args.places.now c.args.buffers.now c.args.body.now)) c.args.first c.args.n c.args.target c.args.start c.args.end) ≡ 0 = let z = c.args in sym (own_same z.formats.now z.schema.now z.lengths.now z.places.now z.buffers.now z.body.now z.first z.n z.target z.start z.end) ∙ sym c.own_ground-g.ensures ∙ c.if-g-ne0-2.false in fact)) in fact)) (lengths_first (length z.plan.now) (length z.counters.now) c.if-plan-ne-WORDS.true)
+    let x = tables_of z.lengths.now z.places.now z.buffers.now z.body.now in
+    let ground = expand_own z.formats.now z.schema.now x z.first z.n z.target z.start z.end in
+    let made = expand_plan z.formats.now z.schema.now x z.first z.n z.target z.start z.end in
+    let answer = expand_out z.formats.now z.schema.now x z.first z.n z.target z.start z.end in
+    let k = kept (goal.at.returns-then-plan-ne-WORDS c).Else-g-ne0-2 in
+    let none_ahead : ahead z.formats.now z.schema.now x z.first z.n ground made answer ≡ 0 = none_before z.formats.now z.schema.now z.lengths.now z.places.now z.buffers.now z.body.now z.first z.n z.target z.start z.end k.0 k.1 k.2 k.3 in
+    asks_lengths z.formats.now z.schema.now x z.first z.n ground made answer z.plan.now z.counters.now none_ahead (lengths_first (length z.plan.now) (length z.counters.now) c.if-plan-ne-WORDS.true)
 
 pub returns-then-counters-ne-COUNTERS : goal.returns-then-counters-ne-COUNTERS
 returns-then-counters-ne-COUNTERS c =
     let z = c.args in
-    asks_lengths z.formats.now z.schema.now ((tables_of c.args.lengths.now c.args.places.now c.args.buffers.now c.args.body.now)) z.first z.n ((expand_own c.args.formats.now c.args.schema.now ((tables_of c.args.lengths.now c.args.places.now c.args.buffers.now c.args.body.now)) c.args.first c.args.n c.args.target c.args.start c.args.end)) ((expand_plan c.args.formats.now c.args.schema.now ((tables_of c.args.lengths.now c.args.places.now c.args.buffers.now c.args.body.now)) c.args.first c.args.n c.args.target c.args.start c.args.end)) ((expand_out c.args.formats.now c.args.schema.now ((tables_of c.args.lengths.now c.args.places.now c.args.buffers.now c.args.body.now)) c.args.first c.args.n c.args.target c.args.start c.args.end)) z.plan.now z.counters.now ((let fact : ahead c.args.formats.now c.args.schema.now ((tables_of c.args.lengths.now c.args.places.now c.args.buffers.now c.args.body.now)) c.args.first c.args.n ((expand_own c.args.formats.now c.args.schema.now ((tables_of c.args.lengths.now c.args.places.now c.args.buffers.now c.args.body.now)) c.args.first c.args.n c.args.target c.args.start c.args.end)) ((expand_plan c.args.formats.now c.args.schema.now ((tables_of c.args.lengths.now c.args.places.now c.args.buffers.now c.args.body.now)) c.args.first c.args.n c.args.target c.args.start c.args.end)) ((expand_out c.args.formats.now c.args.schema.now ((tables_of c.args.lengths.now c.args.places.now c.args.buffers.now c.args.body.now)) c.args.first c.args.n c.args.target c.args.start c.args.end)) ≡ 0 = let z = c.args in none_before z.formats.now z.schema.now z.lengths.now z.places.now z.buffers.now z.body.now z.first z.n z.target z.start z.end ((let fact : c.args.first < 2 ^ 32 = omega arith in fact)) ((let fact : (j : ℕ) → get_or ((tables_of c.args.lengths.now c.args.places.now c.args.buffers.now c.args.body.now)).body j 0 < 256 = λ j₁. (c.shared_slice_known-6-1.given j₁).fits in fact)) ((let fact : column_ground c.args.formats.now c.args.schema.now ((tables_of c.args.lengths.now c.args.places.now c.args.buffers.now c.args.body.now)) c.args.first c.args.n ≡ 0 = sym c.column_ground-g.ensures ∙ c.if-g-ne0.false in fact)) ((let fact : (expand_own c.args.formats.now c.args.schema.now ((tables_of c.args.lengths.now c.args.places.now c.args.buffers.now c.args.body.now)) c.args.first c.args.n c.args.target c.args.start c.args.end) ≡ 0 = let z = c.args in sym (own_same z.formats.now z.schema.now z.lengths.now z.places.now z.buffers.now z.body.now z.first z.n z.target z.start z.end) ∙ sym c.own_ground-g.ensures ∙ c.if-g-ne0-2.false in fact)) in fact)) (lengths_second (length z.plan.now) (length z.counters.now) c.if-counters-ne-COUNTERS.true)
+    let x = tables_of z.lengths.now z.places.now z.buffers.now z.body.now in
+    let ground = expand_own z.formats.now z.schema.now x z.first z.n z.target z.start z.end in
+    let made = expand_plan z.formats.now z.schema.now x z.first z.n z.target z.start z.end in
+    let answer = expand_out z.formats.now z.schema.now x z.first z.n z.target z.start z.end in
+    let k = kept (goal.at.returns-then-counters-ne-COUNTERS c).Else-g-ne0-2 in
+    let none_ahead : ahead z.formats.now z.schema.now x z.first z.n ground made answer ≡ 0 = none_before z.formats.now z.schema.now z.lengths.now z.places.now z.buffers.now z.body.now z.first z.n z.target z.start z.end k.0 k.1 k.2 k.3 in
+    asks_lengths z.formats.now z.schema.now x z.first z.n ground made answer z.plan.now z.counters.now none_ahead (lengths_second (length z.plan.now) (length z.counters.now) c.if-counters-ne-COUNTERS.true)
 
 pub row_of-row-requires : goal.row_of-row-requires
 row_of-row-requires c =
     let z = c.args in
-    record { comes = come z.formats.now z.schema.now z.lengths.now z.places.now z.buffers.now z.body.now z.first z.n z.target z.start z.end ((let fact : c.args.first < 2 ^ 32 = omega arith in fact)) ((let fact : (j : ℕ) → get_or ((tables_of c.args.lengths.now c.args.places.now c.args.buffers.now c.args.body.now)).body j 0 < 256 = λ j₁. (c.shared_slice_known-6-1.given j₁).fits in fact)) ((let fact : column_ground c.args.formats.now c.args.schema.now ((tables_of c.args.lengths.now c.args.places.now c.args.buffers.now c.args.body.now)) c.args.first c.args.n ≡ 0 = sym c.column_ground-g.ensures ∙ c.if-g-ne0.false in fact)) ((let fact : (expand_own c.args.formats.now c.args.schema.now ((tables_of c.args.lengths.now c.args.places.now c.args.buffers.now c.args.body.now)) c.args.first c.args.n c.args.target c.args.start c.args.end) ≡ 0 = let z = c.args in sym (own_same z.formats.now z.schema.now z.lengths.now z.places.now z.buffers.now z.body.now z.first z.n z.target z.start z.end) ∙ sym c.own_ground-g.ensures ∙ c.if-g-ne0-2.false in fact)); target_value = target_plain z.formats.now z.schema.now _ z.first z.n z.target z.start z.end ((let fact : (expand_own c.args.formats.now c.args.schema.now ((tables_of c.args.lengths.now c.args.places.now c.args.buffers.now c.args.body.now)) c.args.first c.args.n c.args.target c.args.start c.args.end) ≡ 0 = let z = c.args in sym (own_same z.formats.now z.schema.now z.lengths.now z.places.now z.buffers.now z.body.now z.first z.n z.target z.start z.end) ∙ sym c.own_ground-g.ensures ∙ c.if-g-ne0-2.false in fact)) }
+    let k = kept (goal.at.row_of-row-requires c).Else-g-ne0-2 in
+    record { comes = come z.formats.now z.schema.now z.lengths.now z.places.now z.buffers.now z.body.now z.first z.n z.target z.start z.end k.0 k.1 k.2 k.3; target_value = target_plain z.formats.now z.schema.now _ z.first z.n z.target z.start z.end k.3 }
 
 pub write_words-requires : goal.write_words-requires
-write_words-requires c = (c.if-plan-ne-WORDS.false, c.row_of-row.ensures.nulls_value_2.1)
+write_words-requires c =
+    (c.if-plan-ne-WORDS.false, c.row_of-row.ensures.nulls_value_2.1)
 
 pub overflow_sub-end : goal.overflow_sub-end
 overflow_sub-end c =
     let z = c.args in
-    let r = (ranged z.formats.now z.schema.now z.lengths.now z.places.now z.buffers.now z.body.now z.first z.n z.target z.start z.end ((let fact : c.args.first < 2 ^ 32 = omega arith in fact)) ((let fact : (j : ℕ) → get_or ((tables_of c.args.lengths.now c.args.places.now c.args.buffers.now c.args.body.now)).body j 0 < 256 = λ j₁. (c.shared_slice_known-6-1.given j₁).fits in fact)) ((let fact : column_ground c.args.formats.now c.args.schema.now ((tables_of c.args.lengths.now c.args.places.now c.args.buffers.now c.args.body.now)) c.args.first c.args.n ≡ 0 = sym c.column_ground-g.ensures ∙ c.if-g-ne0.false in fact)) ((let fact : (expand_own c.args.formats.now c.args.schema.now ((tables_of c.args.lengths.now c.args.places.now c.args.buffers.now c.args.body.now)) c.args.first c.args.n c.args.target c.args.start c.args.end) ≡ 0 = let z = c.args in sym (own_same z.formats.now z.schema.now z.lengths.now z.places.now z.buffers.now z.body.now z.first z.n z.target z.start z.end) ∙ sym c.own_ground-g.ensures ∙ c.if-g-ne0-2.false in fact))).0 in
+    let k = kept (goal.at.overflow_sub-end c).Else-g-ne0-2 in
+    let r = (ranged z.formats.now z.schema.now z.lengths.now z.places.now z.buffers.now z.body.now z.first z.n z.target z.start z.end k.0 k.1 k.2 k.3).0 in
     omega (arith, r)
 
 pub write_counters-requires : goal.write_counters-requires
-write_counters-requires c = c.if-counters-ne-COUNTERS.false
+write_counters-requires c =
+    c.if-counters-ne-COUNTERS.false
 
 pub returns : goal.returns
 returns c =
     let z = c.args in
-    asks_done z.formats.now z.schema.now ((tables_of c.args.lengths.now c.args.places.now c.args.buffers.now c.args.body.now)) z.first z.n ((expand_own c.args.formats.now c.args.schema.now ((tables_of c.args.lengths.now c.args.places.now c.args.buffers.now c.args.body.now)) c.args.first c.args.n c.args.target c.args.start c.args.end)) ((expand_plan c.args.formats.now c.args.schema.now ((tables_of c.args.lengths.now c.args.places.now c.args.buffers.now c.args.body.now)) c.args.first c.args.n c.args.target c.args.start c.args.end)) ((expand_out c.args.formats.now c.args.schema.now ((tables_of c.args.lengths.now c.args.places.now c.args.buffers.now c.args.body.now)) c.args.first c.args.n c.args.target c.args.start c.args.end)) z.plan.now z.counters.now ((let fact : ahead c.args.formats.now c.args.schema.now ((tables_of c.args.lengths.now c.args.places.now c.args.buffers.now c.args.body.now)) c.args.first c.args.n ((expand_own c.args.formats.now c.args.schema.now ((tables_of c.args.lengths.now c.args.places.now c.args.buffers.now c.args.body.now)) c.args.first c.args.n c.args.target c.args.start c.args.end)) ((expand_plan c.args.formats.now c.args.schema.now ((tables_of c.args.lengths.now c.args.places.now c.args.buffers.now c.args.body.now)) c.args.first c.args.n c.args.target c.args.start c.args.end)) ((expand_out c.args.formats.now c.args.schema.now ((tables_of c.args.lengths.now c.args.places.now c.args.buffers.now c.args.body.now)) c.args.first c.args.n c.args.target c.args.start c.args.end)) ≡ 0 = let z = c.args in none_before z.formats.now z.schema.now z.lengths.now z.places.now z.buffers.now z.body.now z.first z.n z.target z.start z.end ((let fact : c.args.first < 2 ^ 32 = omega arith in fact)) ((let fact : (j : ℕ) → get_or ((tables_of c.args.lengths.now c.args.places.now c.args.buffers.now c.args.body.now)).body j 0 < 256 = λ j₁. (c.shared_slice_known-6-1.given j₁).fits in fact)) ((let fact : column_ground c.args.formats.now c.args.schema.now ((tables_of c.args.lengths.now c.args.places.now c.args.buffers.now c.args.body.now)) c.args.first c.args.n ≡ 0 = sym c.column_ground-g.ensures ∙ c.if-g-ne0.false in fact)) ((let fact : (expand_own c.args.formats.now c.args.schema.now ((tables_of c.args.lengths.now c.args.places.now c.args.buffers.now c.args.body.now)) c.args.first c.args.n c.args.target c.args.start c.args.end) ≡ 0 = let z = c.args in sym (own_same z.formats.now z.schema.now z.lengths.now z.places.now z.buffers.now z.body.now z.first z.n z.target z.start z.end) ∙ sym c.own_ground-g.ensures ∙ c.if-g-ne0-2.false in fact)) in fact)) (lengths_both (length z.plan.now) (length z.counters.now) c.if-plan-ne-WORDS.false c.if-counters-ne-COUNTERS.false) refl
+    let x = tables_of z.lengths.now z.places.now z.buffers.now z.body.now in
+    let ground = expand_own z.formats.now z.schema.now x z.first z.n z.target z.start z.end in
+    let made = expand_plan z.formats.now z.schema.now x z.first z.n z.target z.start z.end in
+    let answer = expand_out z.formats.now z.schema.now x z.first z.n z.target z.start z.end in
+    let k = kept (goal.at.returns c).Else-g-ne0-2 in
+    let none_ahead : ahead z.formats.now z.schema.now x z.first z.n ground made answer ≡ 0 = none_before z.formats.now z.schema.now z.lengths.now z.places.now z.buffers.now z.body.now z.first z.n z.target z.start z.end k.0 k.1 k.2 k.3 in
+    asks_done z.formats.now z.schema.now x z.first z.n ground made answer z.plan.now z.counters.now none_ahead (lengths_both (length z.plan.now) (length z.counters.now) c.if-plan-ne-WORDS.false c.if-counters-ne-COUNTERS.false) refl
     (c.write_words.ensures ∙ c.row_of-row.ensures.nulls_value)
-    (c.write_counters.ensures ∙ counters_are z.formats.now z.schema.now z.lengths.now z.places.now z.buffers.now z.body.now z.first z.n z.target z.start z.end ((let fact : c.args.first < 2 ^ 32 = omega arith in fact)) ((let fact : (j : ℕ) → get_or ((tables_of c.args.lengths.now c.args.places.now c.args.buffers.now c.args.body.now)).body j 0 < 256 = λ j₁. (c.shared_slice_known-6-1.given j₁).fits in fact)) ((let fact : column_ground c.args.formats.now c.args.schema.now ((tables_of c.args.lengths.now c.args.places.now c.args.buffers.now c.args.body.now)) c.args.first c.args.n ≡ 0 = sym c.column_ground-g.ensures ∙ c.if-g-ne0.false in fact)) ((let fact : (expand_own c.args.formats.now c.args.schema.now ((tables_of c.args.lengths.now c.args.places.now c.args.buffers.now c.args.body.now)) c.args.first c.args.n c.args.target c.args.start c.args.end) ≡ 0 = let z = c.args in sym (own_same z.formats.now z.schema.now z.lengths.now z.places.now z.buffers.now z.body.now z.first z.n z.target z.start z.end) ∙ sym c.own_ground-g.ensures ∙ c.if-g-ne0-2.false in fact)) _ refl)
+    (c.write_counters.ensures ∙ counters_are z.formats.now z.schema.now z.lengths.now z.places.now z.buffers.now z.body.now z.first z.n z.target z.start z.end k.0 k.1 k.2 k.3 _ refl)

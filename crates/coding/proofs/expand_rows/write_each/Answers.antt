@@ -102,7 +102,7 @@ pub overflow_sub-end : goal.overflow_sub-end
 overflow_sub-end c = omega (arith, c.loop-r.invariant.4.above c.loop-r-test.true, c.read_pattern-end.ensures)
 
 pub overflow_sub-n : goal.overflow_sub-n
-overflow_sub-n c = omega (arith, ((let fact : (c.lesser-next.result - c.loop-r.r ≡ min (end_in c.args.body.now c.args.e c.args.ends c.loop-r.q - (c.args.x + c.loop-r.r)) (c.args.m - c.loop-r.r)) × (c.loop-r.r < c.lesser-next.result) × (c.lesser-next.result ≤ c.args.m) = rest_of c.args.x c.args.m c.loop-r.r (end_in c.args.body.now c.args.e c.args.ends c.loop-r.q) c.lesser-next.result c.loop-r-test.true (c.loop-r.invariant.4.above c.loop-r-test.true) (c.lesser-next.ensures ∙ ap (λ k. min (k - c.args.x) c.args.m) c.read_pattern-end.ensures) in fact)).1)
+overflow_sub-n c = omega (arith, ((let fact : (c.min-next.result - c.loop-r.r ≡ min (end_in c.args.body.now c.args.e c.args.ends c.loop-r.q - (c.args.x + c.loop-r.r)) (c.args.m - c.loop-r.r)) × (c.loop-r.r < c.min-next.result) × (c.min-next.result ≤ c.args.m) = rest_of c.args.x c.args.m c.loop-r.r (end_in c.args.body.now c.args.e c.args.ends c.loop-r.q) c.min-next.result c.loop-r-test.true (c.loop-r.invariant.4.above c.loop-r-test.true) (c.min-next.ensures ∙ ap (λ k. min (k - c.args.x) c.args.m) c.read_pattern-end.ensures) in fact)).1)
 
 pub is_valid-valid-requires : goal.is_valid-valid-requires
 is_valid-valid-requires c = bit_held c.args.body.now c.args.w c.args.masked c.args.s.start c.args.s.mask c.args.s.bit c.args.count c.requires.ends.1 c.loop-r.q (c.loop-r.invariant.4.some_run c.loop-r-test.true)
@@ -112,23 +112,23 @@ number_at-v-requires c = (c.requires.ends.1.sized, row_held c.args.body.now c.ar
 
 pub write_run-requires : goal.write_run-requires
 write_run-requires c =
-    let n = (let fact : (c.lesser-next.result - c.loop-r.r ≡ min (end_in c.args.body.now c.args.e c.args.ends c.loop-r.q - (c.args.x + c.loop-r.r)) (c.args.m - c.loop-r.r)) × (c.loop-r.r < c.lesser-next.result) × (c.lesser-next.result ≤ c.args.m) = rest_of c.args.x c.args.m c.loop-r.r (end_in c.args.body.now c.args.e c.args.ends c.loop-r.q) c.lesser-next.result c.loop-r-test.true (c.loop-r.invariant.4.above c.loop-r-test.true) (c.lesser-next.ensures ∙ ap (λ k. min (k - c.args.x) c.args.m) c.read_pattern-end.ensures) in fact) in
-    let k : c.loop-r.r + (c.lesser-next.result - c.loop-r.r) ≤ c.args.m = omega (arith, n.1, n.2) in
-    (c.requires.ends.1.sized, rw c.loop-r.invariant.3 (fewer_hold c.args.w c.args.masked c.args.t.values c.args.t.mask (length c.args.room.now) c.args.m (c.loop-r.r + (c.lesser-next.result - c.loop-r.r)) c.requires.holds k))
+    let n = (let fact : (c.min-next.result - c.loop-r.r ≡ min (end_in c.args.body.now c.args.e c.args.ends c.loop-r.q - (c.args.x + c.loop-r.r)) (c.args.m - c.loop-r.r)) × (c.loop-r.r < c.min-next.result) × (c.min-next.result ≤ c.args.m) = rest_of c.args.x c.args.m c.loop-r.r (end_in c.args.body.now c.args.e c.args.ends c.loop-r.q) c.min-next.result c.loop-r-test.true (c.loop-r.invariant.4.above c.loop-r-test.true) (c.min-next.ensures ∙ ap (λ k. min (k - c.args.x) c.args.m) c.read_pattern-end.ensures) in fact) in
+    let k : c.loop-r.r + (c.min-next.result - c.loop-r.r) ≤ c.args.m = omega (arith, n.1, n.2) in
+    (c.requires.ends.1.sized, rw c.loop-r.invariant.3 (fewer_hold c.args.w c.args.masked c.args.t.values c.args.t.mask (length c.args.room.now) c.args.m (c.loop-r.r + (c.min-next.result - c.loop-r.r)) c.requires.holds k))
 
 pub overflow_add-q : goal.overflow_add-q
 overflow_add-q c = omega (arith, c.loop-r.invariant.4.some_run c.loop-r-test.true)
 
 pub loop-r-smaller : goal.loop-r-smaller
-loop-r-smaller c = let n = (let fact : (c.lesser-next.result - c.loop-r.r ≡ min (end_in c.args.body.now c.args.e c.args.ends c.loop-r.q - (c.args.x + c.loop-r.r)) (c.args.m - c.loop-r.r)) × (c.loop-r.r < c.lesser-next.result) × (c.lesser-next.result ≤ c.args.m) = rest_of c.args.x c.args.m c.loop-r.r (end_in c.args.body.now c.args.e c.args.ends c.loop-r.q) c.lesser-next.result c.loop-r-test.true (c.loop-r.invariant.4.above c.loop-r-test.true) (c.lesser-next.ensures ∙ ap (λ k. min (k - c.args.x) c.args.m) c.read_pattern-end.ensures) in fact) in omega (arith, n.1, n.2)
+loop-r-smaller c = let n = (let fact : (c.min-next.result - c.loop-r.r ≡ min (end_in c.args.body.now c.args.e c.args.ends c.loop-r.q - (c.args.x + c.loop-r.r)) (c.args.m - c.loop-r.r)) × (c.loop-r.r < c.min-next.result) × (c.min-next.result ≤ c.args.m) = rest_of c.args.x c.args.m c.loop-r.r (end_in c.args.body.now c.args.e c.args.ends c.loop-r.q) c.min-next.result c.loop-r-test.true (c.loop-r.invariant.4.above c.loop-r-test.true) (c.min-next.ensures ∙ ap (λ k. min (k - c.args.x) c.args.m) c.read_pattern-end.ensures) in fact) in omega (arith, n.1, n.2)
 
 pub loop-r-preserved : goal.loop-r-preserved
 loop-r-preserved c =
     let z = c.args in
     let l = c.loop-r in
     let k = c.loop-r-test.true in
-    let u = c.lesser-next.result in
-    let n = (let fact : (c.lesser-next.result - c.loop-r.r ≡ min (end_in c.args.body.now c.args.e c.args.ends c.loop-r.q - (c.args.x + c.loop-r.r)) (c.args.m - c.loop-r.r)) × (c.loop-r.r < c.lesser-next.result) × (c.lesser-next.result ≤ c.args.m) = rest_of c.args.x c.args.m c.loop-r.r (end_in c.args.body.now c.args.e c.args.ends c.loop-r.q) c.lesser-next.result c.loop-r-test.true (c.loop-r.invariant.4.above c.loop-r-test.true) (c.lesser-next.ensures ∙ ap (λ k. min (k - c.args.x) c.args.m) c.read_pattern-end.ensures) in fact) in
+    let u = c.min-next.result in
+    let n = (let fact : (c.min-next.result - c.loop-r.r ≡ min (end_in c.args.body.now c.args.e c.args.ends c.loop-r.q - (c.args.x + c.loop-r.r)) (c.args.m - c.loop-r.r)) × (c.loop-r.r < c.min-next.result) × (c.min-next.result ≤ c.args.m) = rest_of c.args.x c.args.m c.loop-r.r (end_in c.args.body.now c.args.e c.args.ends c.loop-r.q) c.min-next.result c.loop-r-test.true (c.loop-r.invariant.4.above c.loop-r-test.true) (c.min-next.ensures ∙ ap (λ k. min (k - c.args.x) c.args.m) c.read_pattern-end.ensures) in fact) in
     let a = l.invariant.4.above k in
     let f = one_less z.m l.q z.run l.invariant.1 in
     let v : l.r + (u - l.r) ≡ u = omega (arith, n.1) in (
