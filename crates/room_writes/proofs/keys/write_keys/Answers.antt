@@ -1,37 +1,7 @@
 -- `puts::write_keys` meets its contract. Assumes nothing.
 use mathlib.Core.Path.{◌≡◌, ap, ◌∙◌}
-use Prim.Native.Nat.{ℕ, ◌*◌}
-use mathlib.Core.List.{List}
-use Rattle.number.specs.Number.{splice}
 use Rattle.schema.specs.formats.Code.{width_of}
 use Rattle.room_writes.proofs.keys.write_keys.Goals as goal
-
-pub extend_with_offset_signed-requires : goal.extend_with_offset_signed-requires
-extend_with_offset_signed-requires c =
-    let a = c.args in
-    let e : a.w ≡ 1 = c.requires.w_value_2 ∙ ap width_of c.in-1.is in
-    record { n_in_bounds = omega (arith, e, ap (λ (z : ℕ). z * a.n) e); n_in_bounds_2 = omega (arith, e, ap (λ (z : ℕ). z * a.n) e) }
-
-pub extend_with_offset_signed-requires-in-3 : goal.extend_with_offset_signed-requires-in-3
-extend_with_offset_signed-requires-in-3 c =
-    let a = c.args in
-    let e : a.w ≡ 2 = c.requires.w_value_2 ∙ ap width_of c.in-3.is in
-    record { n_in_bounds = omega (arith, e, ap (λ (z : ℕ). z * a.n) e); n_in_bounds_2 = omega (arith, e, ap (λ (z : ℕ). z * a.n) e) }
-
-pub extend_with_offset_signed-requires-in-5 : goal.extend_with_offset_signed-requires-in-5
-extend_with_offset_signed-requires-in-5 c =
-    let a = c.args in
-    let e : a.w ≡ 4 = c.requires.w_value_2 ∙ ap width_of c.in-5.is in
-    record { n_in_bounds = omega (arith, e, ap (λ (z : ℕ). z * a.n) e); n_in_bounds_2 = omega (arith, e, ap (λ (z : ℕ). z * a.n) e) }
-
-pub extend_with_offset_signed-requires-in-7 : goal.extend_with_offset_signed-requires-in-7
-extend_with_offset_signed-requires-in-7 c =
-    let a = c.args in
-    let e : a.w ≡ 8 = c.requires.w_value_2 ∙ ap width_of c.in-7.is in
-    record { n_in_bounds = omega (arith, e, ap (λ (z : ℕ). z * a.n) e); n_in_bounds_2 = omega (arith, e, ap (λ (z : ℕ). z * a.n) e) }
-
-pub write_unsigned_keys-requires : goal.write_unsigned_keys-requires
-write_unsigned_keys-requires c = record { n_in_bounds = c.requires.n_in_bounds; w_value = c.requires.w_value }
 
 pub returns-in-1 : goal.returns-in-1
 returns-in-1 c =

@@ -1,21 +1,6 @@
 -- `puts::write_repeated` meets its contract. Assumes nothing.
-use native.Mathlib.Omega.{arith}
-use mathlib.Core.Path.{ap, ◌∙◌}
-use Prim.Native.Nat.{ℕ, ◌*◌}
 use Rattle.room_writes.proofs.Bytes.{repeated_cut}
 use Rattle.room_writes.proofs.variable_size.write_repeated.Goals as goal
-use mathlib.Core.List.{List}
-use Rattle.number.specs.Number.{splice}
-
-pub repeat_offset-requires : goal.repeat_offset-requires
-repeat_offset-requires c =
-    let a = c.args in
-    omega (arith, c.in-4.is, ap (λ (z : ℕ). z * a.n) c.in-4.is)
-
-pub repeat_offset-requires-in_default : goal.repeat_offset-requires-in_default
-repeat_offset-requires-in_default c =
-    let a = c.args in
-    omega (arith, (c.requires.w_value c.in_default.in_default-own.rest.1), ap (λ (z : ℕ). z * a.n) (c.requires.w_value c.in_default.in_default-own.rest.1))
 
 pub returns-in-4 : goal.returns-in-4
 returns-in-4 c =
