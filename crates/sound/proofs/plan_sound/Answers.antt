@@ -1,7 +1,4 @@
 -- `sound::plan_sound` meets its contract. The invariant: the nodes below i stand well. Assumes nothing.
-use Prim.Native.Nat.{◌-◌}
-use mathlib.Core.Path.{refl}
-use mathlib.Core.Bool.{true}
 use native.Mathlib.Omega.{arith}
 use Rattle.array_data.proofs.lent_tables.Laws.{no, yes}
 use Rattle.plan.proofs.parts.Laws.{every_one}

@@ -1,6 +1,6 @@
 -- Counters that agree in rows and bytes, and what is done to both of them. Assumes nothing.
-use mathlib.Core.Path.{◌≡◌, refl, sym, ap, ap₂, subst, ◌∙◌}
-use mathlib.Core.Bool.{Bool, true, cond}
+use mathlib.Core.Path.{◌≡◌, refl, sym, ap, subst, ◌∙◌}
+use mathlib.Core.Bool.{Bool, cond}
 use mathlib.Core.List.{List, [], ◌∷◌}
 use Prim.Native.Nat.{ℕ, zero, suc, ◌+◌, ◌*◌, ◌≤◌, ◌<◌, min}
 use native.Mathlib.Omega.{arith}
@@ -9,7 +9,7 @@ use lib.Dec.{eqb}
 use lib.Seq.{get_or-set_same, get_or-set_other}
 use borrow.Author.Count.{below_more}
 use Rattle.columnar.specs.Test.{every}
-use Rattle.walk.specs.State.{rows, nulls, bytes, grown, top, add_rows, add_nulls, set_bytes, end_gap, begin_gap}
+use Rattle.walk.specs.State.{nulls, grown, top, add_rows, set_bytes, end_gap, begin_gap}
 use Rattle.plan.specs.parts.Parts.{nodes_of, part_holds, parts_hold}
 use Rattle.sound.specs.trying.Alike.{Alike, Full}
 

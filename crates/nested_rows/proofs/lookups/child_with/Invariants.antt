@@ -1,5 +1,5 @@
 use mathlib.Core.Path.{◌≡◌}
-use Prim.Native.Nat.{◌-◌, ◌≤◌}
+use Prim.Native.Nat.{◌-◌}
 use Rattle.walk.specs.Copy.{child_with}
 use Rattle.nested_rows.proofs.lookups.child_with.Given as goal
 

@@ -1,5 +1,5 @@
 use mathlib.Core.Path.{◌≡◌}
-use Prim.Native.Nat.{◌-◌, ◌≤◌}
+use Prim.Native.Nat.{◌-◌}
 use Rattle.walk.specs.Nulls.{nullable_child}
 use Rattle.nested_rows.proofs.lookups.nullable_child.Given as goal
 

@@ -1,5 +1,4 @@
 -- `trying::uncount` meets its contract. The invariant: the first i null counters are full. Assumes nothing.
-use Prim.Native.Nat.{◌-◌}
 use native.Mathlib.Omega.{arith}
 use Rattle.sound.proofs.trying.Laws.{filled_none, filled_more, filled_all}
 use Rattle.sound.proofs.trying.uncount.Goals as goal

@@ -1,4 +1,3 @@
-use Prim.Native.Nat.{◌-◌, ◌≤◌}
 use Rattle.sound.proofs.trying.Laws.{Filled}
 use Rattle.sound.proofs.trying.uncount.Given as goal
 

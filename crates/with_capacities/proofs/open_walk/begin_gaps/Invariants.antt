@@ -1,6 +1,6 @@
 use mathlib.Core.Bool.{Bool}
 use mathlib.Core.List.{List}
-use Prim.Native.Nat.{ℕ, ◌-◌, ◌≤◌}
+use Prim.Native.Nat.{ℕ, ◌-◌}
 use Rattle.walk.specs.Log.{each}
 use Rattle.walk.proofs.Laws.{Rest}
 use Rattle.refinement.specs.opening.Open.{begin_gaps}

@@ -7,7 +7,6 @@ use Rattle.walk.proofs.Laws.{each_none, each_more}
 use Rattle.refinement.specs.opening.Open.{first_offset}
 use Rattle.refinement.specs.orders.Order.{lent}
 use Rattle.with_capacities.proofs.open_walk.Laws.{nodes_did}
-use borrow.Author.Rules.{rules}
 use Rattle.with_capacities.proofs.open_walk.first_offsets.Goals as goal
 
 pub loop-i-init : goal.loop-i-init

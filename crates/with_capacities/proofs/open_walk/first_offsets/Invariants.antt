@@ -1,7 +1,5 @@
-use mathlib.Core.Path.{◌≡◌}
 use mathlib.Core.List.{List}
-use Prim.Native.Nat.{ℕ, ◌-◌, ◌≤◌}
-use lib.ListN.{length}
+use Prim.Native.Nat.{ℕ, ◌-◌}
 use Rattle.walk.specs.Log.{each}
 use Rattle.walk.proofs.Laws.{Rest}
 use Rattle.refinement.specs.opening.Open.{first_offset}

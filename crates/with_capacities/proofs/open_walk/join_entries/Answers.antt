@@ -6,7 +6,6 @@ use native.Mathlib.Omega.{arith}
 use Rattle.walk.proofs.Laws.{each_none, each_stop, each_more}
 use Rattle.refinement.specs.orders.Order.{lent}
 use Rattle.with_capacities.proofs.open_walk.Laws.{entries_did}
-use borrow.Author.Rules.{rules}
 use Rattle.with_capacities.proofs.open_walk.join_entries.Goals as goal
 
 pub loop-s-init : goal.loop-s-init

@@ -1,7 +1,6 @@
 -- `open_walk::keys_hold` meets its contract. The invariant: the keys of the sources below s have room. Assumes nothing.
 use mathlib.Core.Path.{refl, sym}
 use mathlib.Core.List.{[]}
-use Prim.Native.Nat.{◌-◌}
 use native.Mathlib.Omega.{arith}
 use Rattle.columnar.proofs.Test.{every_false}
 use Rattle.array_data.proofs.lent_tables.Laws.{no, yes}

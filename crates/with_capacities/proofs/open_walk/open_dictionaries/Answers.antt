@@ -7,7 +7,6 @@ use Rattle.walk.proofs.Laws.{each_none, each_stop, each_more}
 use Rattle.refinement.specs.opening.Open.{open_dictionary}
 use Rattle.refinement.specs.orders.Order.{lent}
 use Rattle.with_capacities.proofs.open_walk.Laws.{nodes_did}
-use borrow.Author.Rules.{rules}
 use Rattle.with_capacities.proofs.open_walk.open_dictionaries.Goals as goal
 
 pub loop-i-init : goal.loop-i-init

@@ -1,6 +1,4 @@
-use mathlib.Core.Path.{◌≡◌}
-use Prim.Native.Nat.{◌-◌, ◌≤◌}
-use lib.ListN.{length}
+use Prim.Native.Nat.{◌-◌}
 use Rattle.walk.specs.Log.{each}
 use Rattle.walk.proofs.Laws.{Rest}
 use Rattle.refinement.specs.opening.Open.{open_dictionary}
