@@ -9,8 +9,8 @@ use Rattle.columnar.specs.Types.{half}
 use Rattle.utils.specs.Extension.{extended}
 use Rattle.utils.specs.declared.Extended.{Extended}
 use Rattle.utils.specs.declared.Extended.TheVariants.{Fits, Over, Falls}
-use Rattle.run_ends.specs.declared.Runs.{Runs}
-use Rattle.run_ends.specs.declared.Runs.TheVariants.{Range, None}
+use Rattle.std.specs.Prelude.{Option, Some, None}
+use Rattle.run_ends.specs.declared.RunRange.{RunRange}
 use Rattle.walk.specs.State.{Join, code_of, bytes_of, end_of, rows, bytes, add_rows, place, length_of, offset_of, slot_of, rows_in, far}
 use Rattle.walk.specs.Log.{put, done, wrote, need, found, next}
 use Rattle.walk.specs.Leaves.{copy_bits, copy_mask, copy_numbers, copy_keys, copy_views, put_string, put_extended, copy_string}
@@ -82,9 +82,9 @@ module _ (plan parts parts2 lengths places body : List ℕ) (first source : ℕ)
     unfolding copy_dense dense_row dense_to rows_in
     dense_same i slot n c = refl
 
-    put_runs_same : (w i slot n : ℕ) (r : Runs) (c : List ℕ) → put_runs one child w i slot n r c ≡ put_runs other child w i slot n r c
+    put_runs_same : (w i slot n : ℕ) (r : Option RunRange) (c : List ℕ) → put_runs one child w i slot n r c ≡ put_runs other child w i slot n r c
     put_runs_same w i slot n None c = refl
-    put_runs_same w i slot n (Range start count) c = refl
+    put_runs_same w i slot n (Some r) c = refl
 
     runs_same : (i slot n : ℕ) (c : List ℕ) → copy_runs one child i slot n c ≡ copy_runs other child i slot n c
     unfolding copy_runs rows_in
