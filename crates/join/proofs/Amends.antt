@@ -8,8 +8,8 @@ use Rattle.schema.specs.formats.Code.{is_fixed, is_string, is_view, is_list_view
 use Rattle.utils.specs.Extension.{extended}
 use Rattle.utils.specs.declared.Extended.{Extended}
 use Rattle.utils.specs.declared.Extended.TheVariants.{Fits, Over, Falls}
-use Rattle.run_ends.specs.declared.Runs.{Runs}
-use Rattle.run_ends.specs.declared.Runs.TheVariants.{Range, None}
+use Rattle.std.specs.Prelude.{Option, Some, None}
+use Rattle.run_ends.specs.declared.RunRange.{RunRange}
 use Rattle.walk.specs.State.{Join, code_of, dictionary_of, end_of, keeps_of, bytes_of, rows, bytes, place, far}
 use Rattle.walk.specs.Log.{Entry, put, mask, amend, Log, Out, fail, done, wrote, need, found, next, each}
 use Rattle.walk.specs.Leaves.{copy_bits, copy_mask, copy_numbers, copy_keys, copy_views, put_string, put_extended, copy_string}
@@ -138,9 +138,9 @@ module _ (x : Join) where
         plain_need _ 12 _
         (plain_each _ (λ r c1. plain_found 32 _ 12 _ _ (plain_need _ 6 _ (plain_next _ (plain_put i 1 _ _ c1) (λ c2. plain_next _ (plain_put i 2 _ _ c2) (λ c3. below _ _ 1 c3))))) n 0 c)
 
-    plain_put_runs : (w slot n : ℕ) (r : Runs) (c : List ℕ) → Plain (put_runs x walk w i slot n r c)
+    plain_put_runs : (w slot n : ℕ) (r : Option RunRange) (c : List ℕ) → Plain (put_runs x walk w i slot n r c)
     plain_put_runs w slot n None c = plain_fail 12 c
-    plain_put_runs w slot n (Range start count) c = plain_next _ (below (suc (suc i)) start.0 count c) (λ c2. plain_next _ (plain_put (suc i) 1 _ _ c2) (λ c3. plain_done _))
+    plain_put_runs w slot n (Some r) c = plain_next _ (below (suc (suc i)) r.first.0 r.count c) (λ c2. plain_next _ (plain_put (suc i) 1 _ _ c2) (λ c3. plain_done _))
 
     plain_runs : (slot n : ℕ) (c : List ℕ) → Plain (copy_runs x walk i slot n c)
     unfolding copy_runs
