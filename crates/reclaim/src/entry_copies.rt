@@ -82,10 +82,7 @@ fn step_of(k: u64) -> usize
     requires { k ≤ 512 }
     ensures { result ≡ max k 1 }
 {
-    if k == 0 {
-        return 1;
-    }
-    k as usize
+    k.max(1) as usize
 }
 
 // The entries in use of the `count` from `base` on, whose ranks are given, by one order for each run of them.

@@ -206,20 +206,14 @@ pub fn block_len(base: u64, entries: u64) -> u64
     requires { base < entries }
     ensures { (0 < result) × (result ≤ 512) × (base + result ≤ entries) × (result ≡ min (entries - base) 512) }
 {
-    if BLOCK < entries - base {
-        return BLOCK;
-    }
-    entries - base
+    (entries - base).min(BLOCK)
 }
 
 // How many entries are in the first block.
 fn head_len(entries: u64) -> u64
     ensures { result ≡ min entries 512 }
 {
-    if BLOCK < entries {
-        return BLOCK;
-    }
-    entries
+    entries.min(BLOCK)
 }
 
 // The ranks of the first block of a dictionary with so many entries.
