@@ -7,7 +7,7 @@ ghost use Rattle.explain.specs.stop_walks.Step.{Says, AnyParts};
 use crate::stop_walks::Step;
 use crate::stops::Why;
 use nested_rows::lookups;
-use run_ends::{LogicalRow, Runs};
+use run_ends::LogicalRow;
 use walk::plan_words;
 
 const RUN_END: u8 = 7;
@@ -45,11 +45,11 @@ pub fn step_run(
     }
     let w = lookups::width_at(plan, i + 1);
     match nested_rows::runs_at(lengths, places, body, first, i, w, LogicalRow(slot), n) {
-        Runs::Range { first: run, count } => Step::Below {
+        Some(runs) => Step::Below {
             node: i + 2,
-            row: run.0 as u64,
-            rows: count as u64,
+            row: runs.first.0 as u64,
+            rows: runs.count as u64,
         },
-        Runs::None => Step::Here(crate::stop_walks::plain(12)),
+        None => Step::Here(crate::stop_walks::plain(12)),
     }
 }

@@ -16,9 +16,8 @@ use Rattle.utils.specs.Offsets.{largest, moved, first_above}
 use Rattle.utils.specs.Extension.{extended, over_at}
 use Rattle.utils.specs.declared.Extended.{Extended}
 use Rattle.utils.specs.declared.Extended.TheVariants.{Fits, Over, Falls}
-use Rattle.run_ends.specs.declared.PhysicalRun.{PhysicalRun}
-use Rattle.run_ends.specs.declared.Runs.{Runs}
-use Rattle.run_ends.specs.declared.Runs.TheVariants.{Range, None}
+use Rattle.std.specs.Prelude.{Option, Some, None}
+use Rattle.run_ends.specs.declared.RunRange.{RunRange}
 use Rattle.leaf_walk.specs.variable_size.Lists.{tried_offsets}
 use Rattle.walk.specs.State.{Join, code_of, end_of, bytes_of, rows, bytes, place, length_of, offset_of, far, slot_of, rows_in, grown, top}
 use Rattle.walk.specs.Log.{Out, Did, fail, done, need, found, next, wrote}
@@ -261,7 +260,7 @@ module _ (x : Join) (depth : ℕ) where
           go v y (end_over q e h) p z = absurd (p q)
           go v y (all_ready q h) p z = absurd (z q)
 
-      module _ (z : g ≡ 0) {w : ℕ} (k : w ≡ W) {found : Runs} (f : found ≡ runs_at x walk w i slot n) where
+      module _ (z : g ≡ 0) {w : ℕ} (k : w ≡ W) {found : Option RunRange} (f : found ≡ runs_at x walk w i slot n) where
         run_by : why_runs x walk why i slot n c ≡ why_run x walk why i found c
         run_by = go (runs_ready x i n c).ans (why_runs x walk why i slot n c) (asked s) (sym d ∙ z)
           where
@@ -270,7 +269,7 @@ module _ (x : Join) (depth : ℕ) where
             go v y (end_over q e h) z = absurd (omega (arith, q, z))
             go v y (all_ready q h) z = h ∙ rw (f, k) refl
 
-        pub run_values : {run : PhysicalRun} {count j : ℕ} → found ≡ Range run count → j ≡ suc (suc i) → why_runs x walk why i slot n c ≡ why j run.0 count c
+        pub run_values : {at : RunRange} {j : ℕ} → found ≡ Some at → j ≡ suc (suc i) → why_runs x walk why i slot n c ≡ why j at.first.0 at.count c
         run_values e q = run_by ∙ rw (e, q) refl
 
         pub run_past : found ≡ None → why_runs x walk why i slot n c ≡ only 12

@@ -13,8 +13,8 @@ use Rattle.schema.specs.formats.Code.{between, is_fixed, is_string, is_view, is_
 use Rattle.utils.specs.Extension.{extended}
 use Rattle.utils.specs.declared.Extended.{Extended}
 use Rattle.utils.specs.declared.Extended.TheVariants.{Fits, Over, Falls}
-use Rattle.run_ends.specs.declared.Runs.{Runs}
-use Rattle.run_ends.specs.declared.Runs.TheVariants.{Range, None}
+use Rattle.std.specs.Prelude.{Option, Some, None}
+use Rattle.run_ends.specs.declared.RunRange.{RunRange}
 use Rattle.walk.specs.State.{Join, code_of, dictionary_of, end_of, keeps_of, bytes_of, rows, bytes, place, length_of, offset_of, far, slot_of, rows_in}
 use Rattle.walk.specs.Log.{Entry, Out, fail, done, wrote, need, next}
 use Rattle.walk.specs.Leaves.{copy_bits, copy_mask, copy_numbers, copy_keys, copy_views, put_string, put_extended, copy_string}
@@ -179,9 +179,9 @@ module _ (x : Join) (walk : Walk) (why : WhyWalk) (below : (k a n : ℕ) (c : Li
   unfolding why_dense copy_dense
   dense_says i slot n c = says_needed _ c (λ e. says_each _ _ (λ r c2. dense_row_says i slot r c2) n 0 c)
 
-  run_says : (w i slot n : ℕ) (r : Runs) (c : List ℕ) → Says (why_run x walk why i r c) (put_runs x walk w i slot n r c)
+  run_says : (w i slot n : ℕ) (r : Option RunRange) (c : List ℕ) → Says (why_run x walk why i r c) (put_runs x walk w i slot n r c)
   run_says w i slot n None c = says_fail c
-  run_says w i slot n (Range first count) c = says_then (walk (suc (suc i)) first.0 count c) _ (λ c2. passes_next _ _ (passes_wrote _ c2) (λ c3. passes_done _)) (below (suc (suc i)) first.0 count c)
+  run_says w i slot n (Some r) c = says_then (walk (suc (suc i)) r.first.0 r.count c) _ (λ c2. passes_next _ _ (passes_wrote _ c2) (λ c3. passes_done _)) (below (suc (suc i)) r.first.0 r.count c)
 
   runs_say : (i slot n : ℕ) (c : List ℕ) → Says (why_runs x walk why i slot n c) (copy_runs x walk i slot n c)
   unfolding why_runs copy_runs

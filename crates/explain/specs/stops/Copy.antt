@@ -1,13 +1,12 @@
 -- What stops a copy: node by node as its walk (walk/specs/Copy.antt), whose tests these are. Assumes nothing.
-use Rattle.std.specs.Prelude.{Bool, true, false, cond, ◌&&◌, List, ℕ, zero, suc, ◌+◌, ◌*◌, ◌-◌, ltb, eqb}
+use Rattle.std.specs.Prelude.{Bool, true, false, cond, ◌&&◌, List, ℕ, zero, suc, ◌+◌, ◌*◌, ◌-◌, ltb, eqb, Option, Some, None}
 use Rattle.number.specs.Number.{entry}
 use Rattle.columnar.specs.Types.{half}
 use Rattle.schema.specs.formats.Code.{is_fixed, is_string, is_view, is_list_view, is_list}
 use Rattle.utils.specs.Extension.{extended}
 use Rattle.utils.specs.declared.Extended.{Extended}
 use Rattle.utils.specs.declared.Extended.TheVariants.{Fits, Over, Falls}
-use Rattle.run_ends.specs.declared.Runs.{Runs}
-use Rattle.run_ends.specs.declared.Runs.TheVariants.{Range, None}
+use Rattle.run_ends.specs.declared.RunRange.{RunRange}
 use Rattle.walk.specs.State.{Join, code_of, end_of, bytes_of, rows, bytes, place, length_of, offset_of, far, slot_of, rows_in}
 use Rattle.walk.specs.Log.{Out, done}
 use Rattle.walk.specs.Leaves.{copy_mask, put_string}
@@ -89,9 +88,9 @@ module _ (x : Join) (walk : Walk) (why : WhyWalk) where
       (first_of (dense_row x walk i slot) (why_dense_row i slot) n 0 c)
 
   -- 7: "the last run end plus the row count", at the run-end node, row 0
-  abbrev pub why_run : ℕ → Runs → List ℕ → Why
+  abbrev pub why_run : ℕ → Option RunRange → List ℕ → Why
   why_run i None c = only 12
-  why_run i (Range first count) c = why (suc (suc i)) first.0 count c
+  why_run i (Some r) c = why (suc (suc i)) r.first.0 r.count c
 
   unfoldable pub why_runs : ℕ → ℕ → ℕ → List ℕ → Why
   why_runs i slot n c =

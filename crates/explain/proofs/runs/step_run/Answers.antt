@@ -52,10 +52,10 @@ runs_at-requires c =
     let a = c.args in
     let y = join a.plan.now [] a.lengths.now a.places.now a.body.now a.first 0 in let r = runs_ready_lem y (copy_walk y 0) false a.i a.slot a.n a.counters.now [] c.if-n-eq0.false (c.runs_ready-g.ensures [] [] 0 false) c.if-g-ne0.false in record { first_bound = (c.requires.0, r.low, omega arith); w_value = runs_wide y a.i a.n a.counters.now (add-one a.i) c.width_at-w.ensures r; i_in_bounds = runs_inside y a.i a.n a.counters.now (add-one a.i) c.width_at-w.ensures r }
 
-pub returns-in-Range : goal.returns-in-Range
-returns-in-Range c =
+pub returns-in-Some : goal.returns-in-Some
+returns-in-Some c =
     let a = c.args in
-    λ parts source depth. run_values (join a.plan.now parts a.lengths.now a.places.now a.body.now a.first source) depth a.i a.slot a.n a.counters.now c.if-n-eq0.false (c.runs_ready-g.ensures parts [] source false).answer c.if-g-ne0.false (rw (add-one a.i) at c.width_at-w.ensures) (c.runs_at.ensures a.plan.now parts source (copy_walk (join a.plan.now parts a.lengths.now a.places.now a.body.now a.first source) depth)) c.in-Range.is (two_more a.i)
+    λ parts source depth. run_values (join a.plan.now parts a.lengths.now a.places.now a.body.now a.first source) depth a.i a.slot a.n a.counters.now c.if-n-eq0.false (c.runs_ready-g.ensures parts [] source false).answer c.if-g-ne0.false (rw (add-one a.i) at c.width_at-w.ensures) (c.runs_at.ensures a.plan.now parts source (copy_walk (join a.plan.now parts a.lengths.now a.places.now a.body.now a.first source) depth)) c.in-Some.is (two_more a.i)
 
 pub returns-in-None : goal.returns-in-None
 returns-in-None c =
