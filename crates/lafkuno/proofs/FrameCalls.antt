@@ -9,10 +9,9 @@ use lib.Dec.{eqb}
 use lib.Ieee.{Float}
 use borrow.Author.Tests.{eq-eqb, ne_eqb}
 use Rattle.frames.specs.declared.Frame.{Frame}
-use Rattle.frames.specs.declared.Boxed.{Boxed}
-use Rattle.frames.specs.declared.Boxed.TheVariants as boxed
 use Rattle.frames.specs.Frames.{joined}
 use Rattle.lafkuno.specs.Beside.{sides, frame_of, four, sides_or, frame_ground, frame_after, join_ground, join_after}
+use Rattle.std.specs.Prelude.{Result, Ok, Err}
 
 pub set_four : (s : List Float) (a b c d : Float) → length s ≡ 4 → set (set (set (set s 0 a) 1 b) 2 c) 3 d ≡ a ∷ b ∷ c ∷ d ∷ []
 set_four [] a b c d e = absurd (omega (arith, e))
@@ -22,16 +21,16 @@ set_four (p ∷ q ∷ r ∷ []) a b c d e = absurd (omega (arith, e))
 set_four (p ∷ q ∷ r ∷ t ∷ []) a b c d e = refl
 set_four (p ∷ q ∷ r ∷ t ∷ u ∷ l) a b c d e = absurd (omega (arith, e))
 
-module _ (box : Boxed) (s : List Float) where
-  pub no_room : (f : Frame) → (length s ≡ 4 → ⊥) → box ≡ boxed.Within f → (14 ≡ frame_ground box s) × (s ≡ frame_after box s)
+module _ (box : Result Frame ℕ) (s : List Float) where
+  pub no_room : (f : Frame) → (length s ≡ 4 → ⊥) → box ≡ Ok f → (14 ≡ frame_ground box s) × (s ≡ frame_after box s)
   unfolding frame_ground frame_after
   no_room f h e = rw e (rw (ne_eqb (length s) 4 h), rw (ne_eqb (length s) 4 h))
 
-  pub answered : length s ≡ 4 → (f : Frame) → box ≡ boxed.Within f → (t : List Float) → t ≡ sides f → (0 ≡ frame_ground box s) × (t ≡ frame_after box s)
+  pub answered : length s ≡ 4 → (f : Frame) → box ≡ Ok f → (t : List Float) → t ≡ sides f → (0 ≡ frame_ground box s) × (t ≡ frame_after box s)
   unfolding frame_ground frame_after
   answered h f e t q = rw e (rw (eq-eqb (length s) 4 h), rw (eq-eqb (length s) 4 h) q)
 
-  pub refused : (g : ℕ) → box ≡ boxed.Refused g → (g ≡ frame_ground box s) × (s ≡ frame_after box s)
+  pub refused : (g : ℕ) → box ≡ Err g → (g ≡ frame_ground box s) × (s ≡ frame_after box s)
   unfolding frame_ground frame_after
   refused g e = rw e (refl, same (four s))
     where

@@ -2,9 +2,8 @@
 use Rattle.std.specs.Prelude.{Bool, cond, ◌&&◌, List, [], ◌∷◌, ℕ, length, get_or, eqb, Float}
 use Rattle.std.specs.Float.{nan}
 use Rattle.frames.specs.declared.Frame.{Frame}
-use Rattle.frames.specs.declared.Boxed.{Boxed}
-use Rattle.frames.specs.declared.Boxed.TheVariants as boxed
 use Rattle.frames.specs.Frames.{joined}
+use Rattle.std.specs.Prelude.{Result, Ok, Err}
 
 -- ---- frames as four floats
 
@@ -19,16 +18,16 @@ abbrev pub four : List Float → Bool
 four s = eqb (length s) 4
 
 -- the sides of a frame that is answered; what stood there before where it is refused
-abbrev pub sides_or : Boxed → List Float → List Float
-sides_or (boxed.Within f) s = sides f
-sides_or (boxed.Refused g) s = s
+abbrev pub sides_or : Result Frame ℕ → List Float → List Float
+sides_or (Ok f) s = sides f
+sides_or (Err g) s = s
 
 -- the ground, then 14 where there is not room for a frame
-unfoldable pub frame_ground : Boxed → List Float → ℕ
-frame_ground (boxed.Within f) s = cond (four s) 0 14
-frame_ground (boxed.Refused g) s = g
+unfoldable pub frame_ground : Result Frame ℕ → List Float → ℕ
+frame_ground (Ok f) s = cond (four s) 0 14
+frame_ground (Err g) s = g
 
-unfoldable pub frame_after : Boxed → List Float → List Float
+unfoldable pub frame_after : Result Frame ℕ → List Float → List Float
 frame_after box s = cond (four s) (sides_or box s) s
 
 unfoldable pub join_ground : List Float → List Float → List Float → ℕ

@@ -12,7 +12,7 @@ use Rattle.slot_reader.specs.declared.RowRead.{RowRead}
 use Rattle.slot_reader.specs.declared.RowRead.TheVariants as row
 use Rattle.row_reader.specs.Walk.{Walked, row_at}
 use Rattle.plan.specs.declared.parts.Spot.{Spot}
-use Rattle.plan.specs.declared.parts.Spot.TheVariants as spot
+use Rattle.std.specs.Prelude.{Option, Some, None}
 
 module _ (formats schema : List ℕ) (x : Tables) (first n : ℕ) where
   -- "9, 10 and 12 for a malformed column before any ground of its own"; then 14 where the room does not hold a tree's 256 words
@@ -81,10 +81,10 @@ abbrev pub grows : ℕ → Bool
 grows k = not (eqb k 0)
 
 -- the node of a part, and its buffer; the largest number of 64 bits where there is none
-abbrev pub spot_node : Spot → ℕ
-spot_node (spot.Of i b) = i
-spot_node spot.Nothing = 2 ^ 64 - 1
+abbrev pub spot_node : Option Spot → ℕ
+spot_node (Some s) = s.node
+spot_node None = 2 ^ 64 - 1
 
-abbrev pub spot_buffer : Spot → ℕ
-spot_buffer (spot.Of i b) = b
-spot_buffer spot.Nothing = 2 ^ 64 - 1
+abbrev pub spot_buffer : Option Spot → ℕ
+spot_buffer (Some s) = s.buffer
+spot_buffer None = 2 ^ 64 - 1

@@ -5,7 +5,7 @@ ghost use Rattle.with_capacities.specs.Answer.{lent_tables};
 ghost use Rattle.frames.specs.Box.{box_of};
 ghost use Rattle.lafkuno.specs.Beside.{sides, frame_of, four, frame_ground, frame_after, join_ground, join_after};
 
-use frames::{Boxed, Frame};
+use frames::Frame;
 
 // ---- the box around a trip's stops
 
@@ -62,14 +62,14 @@ pub extern "C" fn lafkuno_frame(
         formats, schema, lengths, places, buffers, body, first_a, n_a, first_b, n_b, start, end,
     );
     match answer {
-        Boxed::Within(f) => {
+        Ok(f) => {
             if room.len() != 4 {
                 return 14;
             }
             put_frame(room, f);
             0
         }
-        Boxed::Refused(g) => g,
+        Err(g) => g,
     }
 }
 

@@ -18,7 +18,6 @@ ghost use Rattle.into_builder.specs.buffers.Names.{AnyOther};
 ghost use Rattle.measure.specs.Answer.{Measures};
 ghost use Rattle.lafkuno.specs.Calls.{keeps, grows, spot_node, spot_buffer};
 
-use plan::parts::Spot;
 
 mod beside;
 mod means;
@@ -109,8 +108,8 @@ pub extern "C" fn lafkuno_part_node(plan: &[u64], p: u32) -> u64
     ensures { result ≡ spot_node (part_at (was plan) p) }
 {
     match plan::parts::part_at(plan, p as usize) {
-        Spot::Of { node, buffer: _ } => node as u64,
-        Spot::Nothing => u64::MAX,
+        Some(s) => s.node as u64,
+        None => u64::MAX,
     }
 }
 
@@ -120,8 +119,8 @@ pub extern "C" fn lafkuno_part_buffer(plan: &[u64], p: u32) -> u64
     ensures { result ≡ spot_buffer (part_at (was plan) p) }
 {
     match plan::parts::part_at(plan, p as usize) {
-        Spot::Of { node: _, buffer } => buffer as u64,
-        Spot::Nothing => u64::MAX,
+        Some(s) => s.buffer as u64,
+        None => u64::MAX,
     }
 }
 
