@@ -18,7 +18,6 @@ ghost use Rattle.into_builder.specs.buffers.Names.{AnyOther};
 ghost use Rattle.measure.specs.Answer.{Measures};
 ghost use Rattle.lafkuno.specs.Calls.{keeps, grows, spot_node, spot_buffer};
 
-
 mod beside;
 mod means;
 mod reading;
