@@ -6,11 +6,11 @@ use Prim.Native.Nat.{ℕ, zero, suc, ◌+◌, ◌*◌, ◌-◌, ◌<◌, ◌≤�
 use native.Mathlib.Nat.{add-zero}
 use native.Mathlib.Omega.{arith}
 use lib.ListN.{length, take, drop, get_or, replicate, length-append, length-drop, length-replicate}
-use lib.Seq.{get_or-take, get_or-drop, ext_get_or, length-take-le}
+use lib.Seq.{get_or-take, get_or-drop, ext_get_or, length-take-le, take-add, drop-drop}
 use lib.Dec.{ltb}
 use borrow.Author.Tests.{ltb-true, ltb-false}
 use Rattle.number.specs.Number.{splice}
-use Rattle.number.proofs.Laws.{length_splice}
+use Rattle.number.proofs.Laws.{length_splice, splice_splice}
 use Rattle.utils.proofs.Pieces.{get_d_splice}
 use Rattle.bits.specs.Bits.{bits, pad, put_bits}
 use Rattle.bits.proofs.Laws.{Below, below_splice, length_bits, bits_splice, take_bits, drop_bits}
@@ -103,3 +103,11 @@ mask_in_lem a p z vs s b u h g =
 
     fit : p + length vs + pad p (length vs) ≤ 8 * z
     fit = pad_fits p (length vs) z h
+
+-- i bytes that are copied, and k behind them, are i + k
+pub copy_copy : (room body : List ℕ) (at from i k : ℕ) → at + i + k ≤ length room → from + i + k ≤ length body
+    → splice (at + i) (take k (drop (from + i) body)) (splice at (take i (drop from body)) room) ≡ splice at (take (i + k) (drop from body)) room
+copy_copy room body at from i k h g =
+    let e : length (take i (drop from body)) ≡ i = length-take-le i (drop from body) (simp length-drop (omega arith)) in
+    let f : length (take k (drop (from + i) body)) ≡ k = length-take-le k (drop (from + i) body) (simp length-drop (omega arith)) in
+    rw (take-add, drop-drop) (rw e at (splice_splice at (take i (drop from body)) (take k (drop (from + i) body)) room (simp (e, f) (omega arith))))

@@ -10,7 +10,6 @@ use lib.Seq.{ext_get_or}
 use lib.Dec.{leb, ltb, eqb}
 use borrow.Author.Tests.{eq-eqb, ne_eqb, lt-leb, le-leb, lt-ltb, le-ltb}
 use Rattle.number.specs.Number.{splice}
-use Rattle.number.proofs.copy.Laws.{copy_step}
 use Rattle.columnar.specs.Row.{seg}
 use Rattle.model.proofs.Bits.{length_seg, get_d_seg}
 use Rattle.array_data.specs.Tables.{Tables}

@@ -7,7 +7,7 @@ use lib.ListN.{length, take, drop, length-append, length-drop}
 use lib.Seq.{drop-drop, take_at, length-take-le, drop-append-add}
 use Rattle.number.specs.Number.{splice}
 use Rattle.number.proofs.Laws.{length_splice}
-use Rattle.number.proofs.copy.Laws.{copy_copy}
+use Rattle.batch.proofs.Splices.{copy_copy}
 
 -- what is written over is as if it had not been written
 splice_again : (at : ℕ) (p q s : List ℕ) → length p ≤ length q → at + length q ≤ length s → splice at q (splice at p s) ≡ splice at q s

@@ -12,7 +12,7 @@ use lib.Dec.{ltb, eqb}
 use borrow.Author.Tests.{ltb-true, ltb-false, eqb-true, eqb-false}
 use Rattle.number.specs.Number.{number, encode, splice}
 use Rattle.number.proofs.Laws.{encode_number}
-use Rattle.number.proofs.copy.Laws.{copy_copy}
+use Rattle.batch.proofs.Splices.{copy_copy}
 use Rattle.walk.specs.State.{grown, top}
 use Rattle.batch.specs.Stretch.{sum_of}
 use Rattle.batch.proofs.ListViews.{sum_up}
