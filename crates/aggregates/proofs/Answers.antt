@@ -1,8 +1,6 @@
 -- Each answer by the test that gives it. Assumes nothing.
 use Rattle.std.specs.Prelude.{Some, None, Ok, Err}
-use Rattle.std.proofs.Common.{◌≡◌, ℕ, ◌+◌, ◌-◌, ◌<◌, ◌≤◌, Bool, true, false, cond, not, eqb, List, ℤ, pos, sym, refl, ap, ◌∙◌, subst, ap₂, arith, eq-eqb, ne_eqb, eqb-true}
-use mathlib.Core.Bool.{false≢true}
-use borrow.Author.Tests.{eqb-false}
+use Rattle.std.proofs.Common.{◌≡◌, ℕ, ◌-◌, Bool, true, false, cond, List, ℤ, pos, refl, ◌∙◌, ap₂, arith, eq-eqb, ne_eqb}
 use Rattle.columnar.specs.Row.{seg}
 use Rattle.array_data.specs.Tables.{Tables}
 use Rattle.array_data.specs.type_tree.Lent.{type_of}

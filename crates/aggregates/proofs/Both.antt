@@ -1,12 +1,11 @@
 -- The tallies of two accepted whole-number columns are those of the rows that both have. Assumes nothing.
 use Rattle.std.specs.Prelude.{Ok, Err}
-use Rattle.std.proofs.Common.{◌≡◌, ℕ, ◌+◌, ◌-◌, ◌^◌, ◌<◌, ◌≤◌, Bool, true, false, cond, not, ◌&&◌, eqb, List, ℤ, pos, negsuc, sym, refl, ap, ◌∙◌, subst, ap₂, arith, eq-eqb, ne_eqb}
+use Rattle.std.proofs.Common.{◌≡◌, ℕ, ◌+◌, ◌-◌, ◌^◌, ◌<◌, Bool, true, false, ◌&&◌, List, ℤ, pos, negsuc, sym, refl, ap, ◌∙◌, ap₂, arith, eq-eqb, ne_eqb}
 use mathlib.Core.Bool.{false≢true}
 use Rattle.columnar.specs.Row.{Row, null, whole, single, double, bytes, list, union, seg}
 use Rattle.array_data.specs.Tables.{Tables}
 use Rattle.array_data.specs.type_tree.Lent.{type_of}
-use Rattle.columns.specs.Grounds.{column_ground}
-use Rattle.columns.specs.column_pair.Pair.{pair_ground, range_in}
+use Rattle.columns.specs.column_pair.Pair.{range_in}
 use Rattle.aggregates.specs.declared.fractions.Fraction.{Fraction}
 use Rattle.aggregates.specs.fractions.Lowest.{fraction_of}
 use Rattle.aggregates.specs.declared.tally.Cell.{Cell}
@@ -16,7 +15,7 @@ use Rattle.aggregates.specs.tally.Cells.{cell_of, tallied_by, Tallied}
 use Rattle.aggregates.proofs.tally.Sums.{hi_low, counted, summed}
 use Rattle.aggregates.specs.patterns.Parts.{Sized}
 use Rattle.aggregates.specs.cell_sums.Numbers.{mask_cell, both_cells}
-use Rattle.aggregates.specs.Report.{whole_type, beside, both_rows, is_zero, ratio_by, ratio_rows, row_of, pair_of, ratio_report}
+use Rattle.aggregates.specs.Report.{whole_type, beside, both_rows, is_zero, ratio_by, row_of, pair_of, ratio_report}
 use Rattle.aggregates.proofs.Tallies.{above, few}
 
 -- what is masked adds what the masked row adds

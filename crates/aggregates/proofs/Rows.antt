@@ -1,13 +1,13 @@
 -- The cells of an accepted whole-number column are those of the rows that the Columnar Format reads. Assumes nothing.
-use Rattle.std.proofs.Common.{◌≡◌, ℕ, zero, suc, ◌+◌, ◌-◌, ◌*◌, ◌^◌, ◌<◌, ◌≤◌, Bool, true, false, cond, not, ◌&&◌, T, eqb, leb, List, length, get_or, sym, refl, ap, ◌∙◌, subst, ap₂, arith, leb-true}
+use Rattle.std.proofs.Common.{◌≡◌, ℕ, ◌+◌, ◌*◌, ◌^◌, ◌<◌, ◌≤◌, Bool, true, false, cond, ◌&&◌, T, List, length, get_or, sym, refl, ap, ◌∙◌, subst, ap₂, arith, leb-true}
 use mathlib.Core.Bool.{false≢true}
 use Rattle.columnar.specs.Row.{Row}
-use Rattle.columnar.specs.Types.{width, fixed, Ty, t_plain, t_run_end}
+use Rattle.columnar.specs.Types.{fixed, Ty, t_plain, t_run_end}
 use Rattle.columnar.specs.Formed.{RunWidth}
 use Rattle.columnar.specs.Reading.{read, Source}
 use Rattle.schema.specs.formats.Code.{is_integer, is_run_end, width_of}
-use Rattle.schema.specs.Tree.{ceilings, typed}
-use Rattle.array_data.specs.Tables.{Tables, length_of, offset_of, place, valid_of, first_buffer}
+use Rattle.schema.specs.Tree.{typed}
+use Rattle.array_data.specs.Tables.{Tables, length_of, offset_of, place}
 use Rattle.array_data.specs.Typed.{Tree, column_of, tables_from, source_rule}
 use Rattle.array_data.specs.type_tree.Lent.{tree_of, type_of}
 use Rattle.array_data.proofs.type_tree.Source.{lent_source}
@@ -16,9 +16,8 @@ use Rattle.columns.specs.Grounds.{ceiling, small_body, within_ceilings, obeys, c
 use Rattle.columns.proofs.Grounds.{within_low}
 use Rattle.columns.proofs.Answers.{sum_fits}
 use Rattle.source_rules.proofs.From.{length_from, offset_from}
-use Rattle.run_ends.specs.declared.PhysicalRun.{PhysicalRun}
-use Rattle.slot_reader.specs.declared.run.RowRun.{RowRun}
-use Rattle.slot_reader.specs.declared.run.RowRun.TheVariants as answer
+use Rattle.std.specs.Prelude.{Result, Ok, Err}
+use Rattle.run_ends.specs.declared.RunRow.{RunRow}
 use Rattle.aggregates.proofs.stretches.Stretch.{ends_fit, ends_held, stretch_run, stretch_some}
 use Rattle.aggregates.specs.tally.Cells.{cell_of}
 use Rattle.aggregates.specs.patterns.Parts.{Sized}
@@ -26,11 +25,11 @@ use Rattle.aggregates.specs.cells.Cells.{Held, number_at, cells_of, cell_at}
 use Rattle.aggregates.proofs.cells.Codes.{code_width_lem, code_sized}
 use Rattle.aggregates.proofs.cells.Rows.{slot_held, slot_cell}
 use Rattle.aggregates.specs.declared.cell_sums.Numbers.{Numbers}
-use Rattle.aggregates.specs.cell_sums.Numbers.{asked, value_at, cell_in, Found, Ready}
+use Rattle.aggregates.specs.cell_sums.Numbers.{asked, value_at, cell_in, Ready}
 use Rattle.aggregates.specs.declared.Shape.{Shape}
 use Rattle.aggregates.specs.Report.{row_of, whole_type}
 use Rattle.aggregates.specs.Shape.{whole_code, shape_of, plain_numbers, run_numbers, numbers_of}
-use Rattle.aggregates.proofs.Types.{code, single, code_own, run_over, values_whole, rows_whole, whole_by, whole_is, type_plain, type_runs}
+use Rattle.aggregates.proofs.Types.{code, single, code_own, run_over, values_whole, rows_whole, whole_by, type_plain, type_runs}
 
 chosen : (b : Bool) (a g : ℕ) → 0 < g → cond b a g ≡ 0 → (b ≡ true) × (a ≡ 0)
 chosen true a g l h = (refl, h)
@@ -180,13 +179,13 @@ module _ (formats schema : List ℕ) (x : Tables) (first n : ℕ) (g : column_gr
     unfolding cell_in
     run_cells r l = go (asked x.body nums r) refl
       where
-        go : (a : RowRun) → asked x.body nums r ≡ a → cell_of (256 ^ width_of c2) (row_of formats schema x first n r) ≡ value_at x.body nums a
-        go (answer.Run k left) q =
-            let s = stretch_run tree xs v of_width values source2 low64 r l k left q in
+        go : (a : Result RunRow ℕ) → asked x.body nums r ≡ a → cell_of (256 ^ width_of c2) (row_of formats schema x first n r) ≡ value_at x.body nums a
+        go (Ok a) q =
+            let s = stretch_run tree xs v of_width values source2 low64 r l a.run a.left q in
             let z : r + 0 ≡ r = omega arith in
             ap (cell_of (256 ^ width_of c2)) (row_is r ∙ ap (read (t_run_end v values) (column_of tree xs (t_run_end v values) 0)) (sym z) ∙ s.reads 0 s.some_left)
-            ∙ sym (value_cell k.0 s.in_values)
-        go (answer.Refused d) q = absurd (stretch_some tree xs v of_width values source2 low64 r l d q)
+            ∙ sym (value_cell a.run.0 s.in_values)
+        go (Err d) q = absurd (stretch_some tree xs v of_width values source2 low64 r l d q)
 
     run_good : Good x.body (row_of formats schema x first n) (length_of xs 0) nums
     run_good =

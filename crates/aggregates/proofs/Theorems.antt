@@ -1,10 +1,9 @@
 -- THE PROMISES of the calls over whole-number columns, as theorems over what they answer. Assumes nothing.
 use Rattle.std.specs.Prelude.{Ok, Err, Result}
-use Rattle.std.proofs.Common.{◌≡◌, ℕ, zero, suc, ◌+◌, ◌-◌, ◌<◌, ◌≤◌, Bool, true, false, cond, ◌&&◌, eqb, List, ◌++◌, ℤ, pos, ◌+ℤ◌, sym, refl, ap, ◌∙◌, subst, ap₂, arith, eq-eqb, eqb-true}
+use Rattle.std.proofs.Common.{◌≡◌, ℕ, zero, suc, ◌+◌, ◌-◌, ◌<◌, ◌≤◌, Bool, true, false, cond, ◌&&◌, eqb, List, ◌++◌, pos, ◌+ℤ◌, sym, refl, ap, ◌∙◌, subst, ap₂, arith, eq-eqb, eqb-true}
 use mathlib.Core.Bool.{false≢true}
 use borrow.Author.Tests.{eqb-false}
 use Rattle.columnar.specs.Row.{Row, seg}
-use Rattle.columnar.specs.Types.{Ty, t_plain, t_run_end}
 use Rattle.aggregates.specs.fractions.Lowest.{fraction_of, Lowest}
 use Rattle.aggregates.proofs.fractions.Terms as terms
 use Rattle.aggregates.specs.tally.Sums.{count_of, sum_of, fits}

@@ -1,12 +1,11 @@
 -- The codes of a typed tree's nodes say whether its column is one of whole numbers. Assumes nothing.
-use Rattle.std.proofs.Common.{◌≡◌, ℕ, zero, suc, ◌+◌, ◌<◌, ◌≤◌, Bool, true, false, cond, not, ◌&&◌, ◌||◌, eqb, leb, ◌⊎◌, List, sym, refl, ap, ◌∙◌, subst, ap₂, inl, inr, arith, eq-eqb, ne_eqb, eqb-true, le-leb, leb-true}
+use Rattle.std.proofs.Common.{◌≡◌, ℕ, zero, suc, ◌<◌, Bool, true, false, cond, not, ◌&&◌, ◌||◌, eqb, leb, ◌⊎◌, List, sym, refl, ap, ◌∙◌, subst, inl, inr, arith, ne_eqb, eqb-true, leb-true}
 use mathlib.Core.Bool.{false≢true}
-use mathlib.Core.Option.{Option}
-use Rattle.columnar.specs.Types.{Number, width, Plain, fixed, string, Ty, t_plain, t_run_end}
+use Rattle.columnar.specs.Types.{Plain, fixed, string, Ty, t_plain, t_run_end}
 use Rattle.columnar.specs.Formed.{RunWidth}
 use Rattle.columnar.specs.Wider.{integer}
 use Rattle.schema.specs.formats.Code.{between, is_integer, is_fixed, is_string, is_view, is_list_view, is_list, is_union, is_sparse, is_run_end, width_of}
-use Rattle.schema.specs.formats.Types.{number_of, number_or}
+use Rattle.schema.specs.formats.Types.{number_of}
 use Rattle.schema.specs.Tree.{children, dictionary, below, bare, child_for_each, code_of, ids_of, values_shape, ends_shape, leaf_shape, keys_shape, list_shape, union_shape, run_shape, shape, typed}
 use Rattle.schema.proofs.Trees.{child_inside}
 use Rattle.schema.proofs.Known.{typed_whole, typed_shape}

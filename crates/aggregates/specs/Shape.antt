@@ -1,5 +1,5 @@
 -- What the code reads of a column's nodes before its rows. That it is what the type says is proofs/Types.antt. Assumes nothing.
-use Rattle.std.specs.Prelude.{ℕ, Bool, true, false, cond, ◌&&◌, List, ◌==◌}
+use Rattle.std.specs.Prelude.{ℕ, true, false, cond, List, ◌==◌}
 use Rattle.schema.specs.formats.Code.{is_integer, is_run_end, width_of}
 use Rattle.schema.specs.Tree.{dictionary, code_of}
 use Rattle.array_data.specs.Tables.{Tables, offset_of}

@@ -11,7 +11,6 @@ use crate::cells::Cells;
 use crate::stretches::Ends;
 use crate::tally::{Cell, Tally};
 use crate::{blocks, cells, patterns, stretches, tally};
-use slot_reader::run::RowRun;
 
 // A column of whole numbers: of plain rows, or of runs, whose values then stand from `skip` on in the cells.
 #[derive(Clone, Copy)]
@@ -61,11 +60,11 @@ fn find_stretch(body: &[u8], n: Numbers, row: u64) -> Stretch
     let e = n.ends;
     let c = n.cells;
     match stretches::stretch_at(body, e, row) {
-        RowRun::Run { run, left } => Stretch {
-            cell: cells::cell_at(body, c, (n.skip as usize) + run.0),
-            until: row + left,
+        Ok(found) => Stretch {
+            cell: cells::cell_at(body, c, (n.skip as usize) + found.run.0),
+            until: row + found.left,
         },
-        RowRun::Refused(_) => Stretch {
+        Err(_) => Stretch {
             cell: Cell {
                 count: 0,
                 bits: 0,

@@ -7,8 +7,9 @@ ghost use Rattle.slot_reader.specs.run.Rows.{row_run};
 ghost use Rattle.aggregates.specs.stretches.Ends.{ends_of};
 
 use array_data::entries;
+use run_ends::RunRow;
 use slot_reader::run;
-use slot_reader::run::{ColumnRow, RowRun};
+use slot_reader::run::ColumnRow;
 
 // The run ends of `width` bytes from `start` to `stop` in the body, and the column's offset and length.
 #[derive(Clone, Copy)]
@@ -40,7 +41,7 @@ pub fn find_ends(lengths: &[u64], places: &[u64], first: u32, width: u8) -> Ends
 }
 
 // The run of a row, and how many rows of the column from that one on stand in it.
-pub fn stretch_at(body: &[u8], e: Ends, row: u64) -> RowRun
+pub fn stretch_at(body: &[u8], e: Ends, row: u64) -> Result<RunRow, u8>
     requires { (e.start ≤ e.stop) × (e.stop ≤ length body.now) }
     ensures { result ≡ row_run (part (was body) e.start (e.stop - e.start)) e.offset e.len e.width row }
 {

@@ -1,6 +1,6 @@
 -- The expansion on lent memory (02, W1): "and the expansion back". Assumes nothing.
-use Rattle.std.specs.Prelude.{◌≡◌, Bool, true, cond, ◌&&◌, List, [], ◌∷◌, ℕ, ◌+◌, ◌*◌, ◌-◌, ◌≤◌, ◌<◌, ◌^◌, length, replicate, eqb}
-use Rattle.columnar.specs.Types.{Number, width, fixed, t_plain, t_run_end}
+use Rattle.std.specs.Prelude.{Bool, true, cond, ◌&&◌, List, [], ◌∷◌, ℕ, ◌+◌, ◌*◌, ◌-◌, ◌≤◌, ◌<◌, ◌^◌, length, replicate, eqb, Result, Ok, Err}
+use Rattle.columnar.specs.Types.{Number, fixed, t_plain, t_run_end}
 use Rattle.columnar.specs.Reading.{Column}
 use Rattle.schema.specs.formats.Code.{is_run_end, width_of}
 use Rattle.schema.specs.formats.Types.{number_of, number_or}
@@ -10,8 +10,7 @@ use Rattle.array_data.specs.Typed.{column_of, tables_from}
 use Rattle.array_data.specs.lent_tables.Lent.{tables}
 use Rattle.array_data.specs.type_tree.Lent.{tree_of}
 use Rattle.columns.specs.column_pair.Pair.{range_in}
-use Rattle.slot_reader.specs.declared.run.RowRun.{RowRun}
-use Rattle.slot_reader.specs.declared.run.RowRun.TheVariants as answer
+use Rattle.run_ends.specs.declared.RunRow.{RunRow}
 use Rattle.slot_reader.specs.run.Rows.{row_run}
 use Rattle.aggregates.specs.stretches.Ends.{ends_of}
 use Rattle.walk.specs.Log.{Out, start_of}
@@ -72,9 +71,9 @@ module _ (formats schema : List ℕ) (x : Tables) (first n target start end : �
 -- ---- as the runs stand in the body
 
 -- the run that was found; any where there is none
-abbrev pub run_or : RowRun → ℕ
-run_or (answer.Run k left) = k.0
-run_or (answer.Refused g) = 0
+abbrev pub run_or : Result RunRow ℕ → ℕ
+run_or (Ok r) = r.run.0
+run_or (Err g) = 0
 
 module _ (formats schema : List ℕ) (x : Tables) (first start end : ℕ) where
   abbrev pub value_wide : ℕ

@@ -21,7 +21,6 @@ use crate::{expand_rows, row_plan};
 use aggregates::stretches;
 use array_data::entries;
 use plan::dictionaries;
-use slot_reader::run::RowRun;
 use walk::plan_words;
 
 // Whether the column is a run-end one of fixed-width values.
@@ -122,8 +121,8 @@ fn first_run(lengths: &[u64], places: &[u64], body: &[u8], first: u32, width: u8
 {
     let e = stretches::find_ends(lengths, places, first, width);
     match stretches::stretch_at(body, e, row) {
-        RowRun::Run { run, left: _ } => run.0,
-        RowRun::Refused(_) => 0,
+        Ok(found) => found.run.0,
+        Err(_) => 0,
     }
 }
 

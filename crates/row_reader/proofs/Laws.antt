@@ -1,30 +1,27 @@
 -- The cases of a step and of a walk. Assumes nothing.
 use mathlib.Core.Path.{◌≡◌, refl, ap, sym, subst, ◌∙◌}
-use mathlib.Core.Bool.{Bool, true, false, cond, ◌&&◌, ◌||◌, and-false}
-use mathlib.Core.List.{List, [], ◌∷◌, ◌++◌}
-use Prim.Native.Nat.{ℕ, zero, suc, ◌+◌, ◌*◌, ◌-◌, ◌^◌, ◌≤◌, ◌<◌, min}
+use mathlib.Core.Bool.{Bool, true, false, cond, and-false}
+use mathlib.Core.List.{List, [], ◌∷◌}
+use Prim.Native.Nat.{ℕ, zero, suc, ◌+◌, ◌*◌, ◌-◌, ◌^◌, ◌≤◌, ◌<◌}
 use native.Mathlib.Nat.{add-mul}
 use native.Mathlib.Numerals.{add-one}
 use native.Mathlib.Omega.{arith}
 use lib.ListN.{length, take, drop, set, length-take, length-drop}
 use lib.Seq.{set_split, append_snoc, drop-drop}
-use lib.Dec.{leb, ltb, eqb}
-use borrow.Author.Tests.{le-leb, lt-leb, leb-true, leb-false, lt-ltb, le-ltb, eq-eqb, ne_eqb, eqb-true}
+use lib.Dec.{leb, eqb}
+use borrow.Author.Tests.{le-leb, lt-leb, leb-true, lt-ltb, le-ltb, eq-eqb, ne_eqb, eqb-true}
 use Rattle.std.specs.Prelude.{Option, Some, None}
 use Rattle.number.specs.Number.{splice}
-use Rattle.number.proofs.Laws.{splice_splice, splice_nil, length_splice}
+use Rattle.number.proofs.Laws.{splice_splice, splice_nil}
 use Rattle.schema.specs.formats.Code.{is_fixed, is_string, is_view, is_list_view, is_list, is_union, is_sparse, is_run_end, width_of}
 use Rattle.array_data.specs.Tables.{Tables, part, length_of, offset_of, place, valid_of, first_buffer, second_buffer}
 use Rattle.array_data.specs.NodeKinds.{NodeKind, fixed_node, string_node, view_node, list_view_node, list_node, sparse_node, dense_node, run_end_node, dictionary_node}
-use Rattle.run_ends.specs.declared.PhysicalRun.{PhysicalRun}
+use Rattle.run_ends.specs.declared.RunRow.{RunRow}
 use Rattle.slot_reader.specs.run.Rows.{row_run}
-use Rattle.slot_reader.specs.declared.run.RowRun.{RowRun}
-use Rattle.slot_reader.specs.declared.run.RowRun.TheVariants as run
 use Rattle.array_data.specs.node_words.Words.{word}
 use Rattle.array_data.specs.entries.Entries.{entry_in, valid_in}
 use Rattle.array_data.proofs.entries.Laws.{cut}
 use Rattle.array_data.specs.declared.entries.Validity.{Validity}
-use Rattle.array_data.specs.declared.entries.Validity.TheVariants as validity
 use Rattle.slot_reader.specs.declared.RowRead.{RowRead}
 use Rattle.slot_reader.specs.declared.RowRead.TheVariants as row
 use Rattle.slot_reader.specs.Slots.{code_word, code_number, known, kind_word, slot_by, slot_read}
@@ -33,7 +30,7 @@ use Rattle.row_reader.specs.declared.Step.{Step}
 use Rattle.row_reader.specs.declared.Step.TheVariants as step
 use Rattle.row_reader.specs.Walk.{refused, end_word, child_from, child_of, chosen, into, under_id, code_width, ends_in, run_in, ran, run_of, runs_step, run_at, step_by, step_on, sighted, step_at, Walked, walked_to, under, follow, walk, is_refused, kept, row_at}
 use Rattle.array_data.proofs.Names.{number_kind, union_kind}
-use Rattle.std.specs.Prelude.{Some, None, Option}
+use Rattle.std.specs.Prelude.{Some, None, Option, Result, Ok, Err}
 
 -- ---- a union's child
 
@@ -99,11 +96,11 @@ pub part_short : (body : List ℕ) (start size : ℕ) → length (part body star
 part_short body start size = omega (arith, length-take size (drop start body))
 
 module _ (w : ℕ) (body : List ℕ) (start size off len offset rows r : ℕ) where
-  pub run_over : 2 ^ 64 ≤ off + len → run.Refused 12 ≡ run_in w (part body start size) off len offset rows r
+  pub run_over : 2 ^ 64 ≤ off + len → Err 12 ≡ run_in w (part body start size) off len offset rows r
   unfolding run_in
   run_over h = rw (le-ltb (off + len) (2 ^ 64) h)
 
-  pub run_long_lem : leb ((off + len) * w) (length (part body start size)) ≡ false → run.Refused 12 ≡ run_in w (part body start size) off len offset rows r
+  pub run_long_lem : leb ((off + len) * w) (length (part body start size)) ≡ false → Err 12 ≡ run_in w (part body start size) off len offset rows r
   unfolding run_in
   run_long_lem e = rw (e, and-false)
 
@@ -131,14 +128,14 @@ pub runs_as : (tree : List ℕ) (x : Tables) (i e w c start size off len offset 
     → run_in w (part x.body start size) off len offset rows r ≡ run_of x i (code_width tree (suc i)) r
 runs_as tree x i e w c start size off len offset rows r p q s a b o l y z = rw (q, s, a, b, o, l, y, z, p)
 
-pub ran_run : (i j : ℕ) (f : RowRun) (k : PhysicalRun) (left : ℕ) → f ≡ run.Run k left → j ≡ suc (suc i) → step.Go j k.0 ≡ ran i f
-ran_run i j f k left p q = rw (p, q)
+pub ran_run : (i j : ℕ) (f : Result RunRow ℕ) (r : RunRow) → f ≡ Ok r → j ≡ suc (suc i) → step.Go j r.run.0 ≡ ran i f
+ran_run i j f r p q = rw (p, q)
 
-pub ran_past : (i : ℕ) (f : RowRun) (g : ℕ) → f ≡ run.Refused g → refused 12 ≡ ran i f
+pub ran_past : (i : ℕ) (f : Result RunRow ℕ) (g : ℕ) → f ≡ Err g → refused 12 ≡ ran i f
 ran_past i f g p = ap (ran i) (sym p)
 
 module _ (tree : List ℕ) (x : Tables) (r code : ℕ) (e : code ≡ code_word tree 0) where
-  pub at_other : is_run_end code ≡ false → run.Refused 10 ≡ run_at tree x r
+  pub at_other : is_run_end code ≡ false → Err 10 ≡ run_at tree x r
   unfolding run_at
   at_other h = rw (← e, h)
 

@@ -1,12 +1,11 @@
 -- A row of a lent column, level by level: 01, "A row is read from the top of the tree downward, at most eight levels." A node's row i is
 -- the slot with its offset added. Ground 12 where the body does not hold what is read. Assumes nothing.
-use Rattle.std.specs.Prelude.{Bool, true, false, cond, ◌&&◌, List, [], ◌∷◌, ℕ, zero, suc, ◌+◌, ◌*◌, ◌-◌, ◌^◌, min, length, take, drop, leb, ltb, eqb, Option, Some, None}
+use Rattle.std.specs.Prelude.{Bool, true, false, cond, ◌&&◌, List, [], ◌∷◌, ℕ, zero, suc, ◌+◌, ◌*◌, ◌-◌, ◌^◌, min, length, take, drop, leb, ltb, eqb, Option, Some, None, Result, Ok, Err}
 use Rattle.schema.specs.formats.Code.{is_run_end, width_of}
-use Rattle.array_data.specs.Tables.{Tables, length_of, offset_of, place, valid_of, first_buffer, second_buffer}
+use Rattle.array_data.specs.Tables.{Tables, length_of, offset_of, valid_of, first_buffer, second_buffer}
 use Rattle.array_data.specs.NodeKinds.{NodeKind, fixed_node, string_node, view_node, list_view_node, list_node, sparse_node, dense_node, run_end_node, dictionary_node}
+use Rattle.run_ends.specs.declared.RunRow.{RunRow}
 use Rattle.slot_reader.specs.run.Rows.{row_run}
-use Rattle.slot_reader.specs.declared.run.RowRun.{RowRun}
-use Rattle.slot_reader.specs.declared.run.RowRun.TheVariants as run
 use Rattle.array_data.specs.node_words.Words.{word}
 use Rattle.array_data.specs.entries.Entries.{entry_in, valid_in}
 use Rattle.array_data.specs.declared.entries.Validity.{Validity}
@@ -64,18 +63,18 @@ abbrev pub ends_in : ℕ → List ℕ → ℕ → ℕ → List ℕ
 ends_in w s off len = take (len * w) (drop (off * w) s)
 
 -- the run of row r of a column of `rows` rows at `offset`, as the run reader answers it; ground 12 where the buffer does not hold the run ends
-unfoldable pub run_in : ℕ → List ℕ → ℕ → ℕ → ℕ → ℕ → ℕ → RowRun
+unfoldable pub run_in : ℕ → List ℕ → ℕ → ℕ → ℕ → ℕ → ℕ → Result RunRow ℕ
 run_in w s off len offset rows r =
-    cond (ltb (off + len) (2 ^ 64) && leb ((off + len) * w) (length s)) (row_run (ends_in w s off len) offset rows w r) (run.Refused 12)
+    cond (ltb (off + len) (2 ^ 64) && leb ((off + len) * w) (length s)) (row_run (ends_in w s off len) offset rows w r) (Err 12)
 
 -- "a run-end row [is] the value of the first run whose end is above offset + row"
-abbrev pub ran : ℕ → RowRun → Step
-ran i (run.Run k left) = step.Go (suc (suc i)) k.0
-ran i (run.Refused refusal) = refused 12
+abbrev pub ran : ℕ → Result RunRow ℕ → Step
+ran i (Ok r) = step.Go (suc (suc i)) r.run.0
+ran i (Err refusal) = refused 12
 
 module _ (x : Tables) where
   -- the run of row r of node i: its run ends are the next node, with their own offset
-  abbrev pub run_of : ℕ → ℕ → ℕ → RowRun
+  abbrev pub run_of : ℕ → ℕ → ℕ → Result RunRow ℕ
   run_of i w r = run_in w (first_buffer x (suc i)) (offset_of x (suc i)) (length_of x (suc i)) (offset_of x i) (length_of x i) r
 
   -- slot k of node i: the run reader adds the offset itself
@@ -83,8 +82,8 @@ module _ (x : Tables) where
   runs_step i w k = ran i (run_of i w (k - offset_of x i))
 
 -- THE RUN OF ROW r of an opened run-end column, and the rows left in it; any other column is 10
-unfoldable pub run_at : List ℕ → Tables → ℕ → RowRun
-run_at tree x r = cond (is_run_end (code_word tree 0)) (run_of x 0 (code_width tree 1) r) (run.Refused 10)
+unfoldable pub run_at : List ℕ → Tables → ℕ → Result RunRow ℕ
+run_at tree x r = cond (is_run_end (code_word tree 0)) (run_of x 0 (code_width tree 1) r) (Err 10)
 
 -- ---- one level
 

@@ -15,7 +15,8 @@ ghost use Rattle.row_reader.specs.Walk.{code_width, run_in, run_of, runs_step, r
 
 use array_data::entries::Validity;
 use array_data::{entries, lent_tables};
-use slot_reader::run::{ColumnRow, RowRun};
+use run_ends::RunRow;
+use slot_reader::run::ColumnRow;
 use slot_reader::{RowRead, run};
 
 // What a node says of a row: all there is, or the row of a child; of a union's child with its id.
@@ -54,14 +55,14 @@ fn find_run(
     offset: u64,
     rows: u64,
     row: ColumnRow,
-) -> RowRun
+) -> Result<RunRow, u8>
     ensures { result ≡ run_in w (part (was body) start size) off len offset rows row.0 }
 {
     if u64::MAX - off < len {
-        return RowRun::Refused(12);
+        return Err(12);
     }
     if !lent_tables::rows_fit(off + len, w, lent_tables::part_len(body, start, size)) {
-        return RowRun::Refused(12);
+        return Err(12);
     }
     let n = len * (w as u64);
     if n == 0 {
@@ -82,7 +83,7 @@ fn run_of(
     first: u32,
     i: usize,
     row: ColumnRow,
-) -> RowRun
+) -> Result<RunRow, u8>
     requires { i + 2 < 2 ^ 32 }
     ensures { result ≡ run_of (column (was lengths) (was places) [] (was body) first) i (code_width (was tree) (suc i)) row.0 }
 {
@@ -112,12 +113,12 @@ fn step_runs(
     ensures { result ≡ runs_step (column (was lengths) (was places) [] (was body) first) i (code_width (was tree) (suc i)) slot }
 {
     let row = ColumnRow(slot - entries::offset_at(lengths, first, i));
-    match run_of(tree, lengths, places, body, first, i, row) {
-        RowRun::Run { run, left: _ } => Step::Go {
-            node: i + 2,
-            row: run.0 as u64,
-        },
-        RowRun::Refused(_) => Step::Done(RowRead::Refused(12)),
+    let Ok(found) = run_of(tree, lengths, places, body, first, i, row) else {
+        return Step::Done(RowRead::Refused(12));
+    };
+    Step::Go {
+        node: i + 2,
+        row: found.run.0 as u64,
     }
 }
 
@@ -130,11 +131,11 @@ pub fn run_at(
     body: &[u8],
     first: u32,
     row: ColumnRow,
-) -> RowRun
+) -> Result<RunRow, u8>
     ensures { result ≡ run_at (was tree) (column (was lengths) (was places) [] (was body) first) row.0 }
 {
     if !schema::formats::is_run_end(slot_reader::code_word(tree, 0)) {
-        return RowRun::Refused(10);
+        return Err(10);
     }
     run_of(tree, lengths, places, body, first, 0, row)
 }

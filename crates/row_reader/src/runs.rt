@@ -7,7 +7,8 @@ ghost use Rattle.array_data.specs.entries.Entries.{column};
 ghost use Rattle.row_reader.specs.Walk.{run_at};
 ghost use Rattle.row_reader.specs.runs.Answers.{read_run, refusal, numbers};
 
-use slot_reader::run::{ColumnRow, RowRun};
+use run_ends::RunRow;
+use slot_reader::run::ColumnRow;
 
 // A copy; that it has 256 elements is known of an array that a call returns.
 fn copied(tree: [u64; 256]) -> [u64; 256]
@@ -28,7 +29,7 @@ pub fn read_run(
     first: u32,
     n: u32,
     row: ColumnRow,
-) -> RowRun
+) -> Result<RunRow, u8>
     ensures { result ≡ read_run (was formats) (was schema) (tables_of (was lengths) (was places) (was buffers) (was body)) first n row.0 }
 {
     let mut tree = [0u64; 256];
@@ -36,7 +37,7 @@ pub fn read_run(
         formats, schema, lengths, places, buffers, body, first, n, &mut tree,
     );
     if refused != 0 {
-        return RowRun::Refused(refused);
+        return Err(refused);
     }
     let words = copied(tree);
     crate::run_at(&words, lengths, places, body, first, row)
@@ -44,12 +45,12 @@ pub fn read_run(
 
 // The ground, then 14 where the answer has not 2 numbers, or 0. They are the run and the rows left; a ground leaves them as they
 // were.
-fn put_run(found: RowRun, answer: &mut [u64]) -> u8
+fn put_run(found: Result<RunRow, u8>, answer: &mut [u64]) -> u8
     ensures value { result ≡ refusal found answer.old }
     ensures answer_value { answer.new ≡ numbers found answer.old }
 {
     match found {
-        RowRun::Run { run, left } => {
+        Ok(RunRow { run, left }) => {
             if answer.len() != 2 {
                 return 14;
             }
@@ -57,7 +58,7 @@ fn put_run(found: RowRun, answer: &mut [u64]) -> u8
             answer[1] = left;
             0
         }
-        RowRun::Refused(refused) => refused,
+        Err(refused) => refused,
     }
 }
 

@@ -3,18 +3,11 @@ ghost use Rattle.std.specs.Prelude.{◌≡◌};
 ghost use Rattle.clauses.specs.Slices.{was};
 ghost use Rattle.slot_reader.specs.run.Rows.{row_run, ends_run};
 
-use run_ends::{LogicalRow, PhysicalRun, RunRow};
+use run_ends::{LogicalRow, RunRow};
 
 // A row of the column, counted from its first: the offset is not added yet.
 #[derive(Clone, Copy)]
 pub struct ColumnRow(pub u64);
-
-// The run of a row, and how many rows of the column from that one on stand in it; or the ground of refusal.
-#[derive(Clone, Copy)]
-pub enum RowRun {
-    Run { run: PhysicalRun, left: u64 },
-    Refused(u8),
-}
 
 // A run-end column: its run ends of `width` bytes, its offset and its length.
 #[derive(Clone, Copy)]
@@ -37,23 +30,27 @@ fn found_run(ends: &[u8], width: u8, row: LogicalRow, last: LogicalRow) -> Optio
     }
 }
 
-// The run of a row of the column whose run ends of `width` bytes are lent.
-pub fn run_of_row(ends: &[u8], offset: u64, len: u64, width: u8, row: ColumnRow) -> RowRun
+// The run of a row of the column whose run ends of `width` bytes are lent, and how many rows of the column from that one on stand in it; or the
+// ground of refusal.
+pub fn run_of_row(
+    ends: &[u8],
+    offset: u64,
+    len: u64,
+    width: u8,
+    row: ColumnRow,
+) -> Result<RunRow, u8>
     ensures { result ≡ row_run (was ends) offset len width row.0 }
 {
     let i = row.0;
     if len <= i {
-        return RowRun::Refused(2);
+        return Err(2);
     }
     if u64::MAX - offset < len {
-        return RowRun::Refused(12);
+        return Err(12);
     }
     let x = LogicalRow(offset + i);
     let last = LogicalRow(offset + len);
-    match found_run(ends, width, x, last) {
-        Some(RunRow { run, left }) => RowRun::Run { run, left },
-        None => RowRun::Refused(12),
-    }
+    found_run(ends, width, x, last).ok_or(12)
 }
 
 // A reader over lent run ends.
@@ -69,14 +66,14 @@ pub fn new<'a>(ends: &'a [u8], offset: u64, len: u64, width: u8) -> RunReader<'a
 }
 
 // The run of a row.
-pub fn find<'a>(r: RunReader<'a>, row: ColumnRow) -> RowRun
+pub fn find<'a>(r: RunReader<'a>, row: ColumnRow) -> Result<RunRow, u8>
     ensures { result ≡ row_run r.entry.ends.now r.entry.offset r.entry.len r.entry.width row.0 }
 {
     run_of_row(r.ends, r.offset, r.len, r.width, row)
 }
 
 // The run of a row, by a reader of these run ends: for a caller that keeps none.
-pub fn run_at(ends: &[u8], offset: u64, len: u64, width: u8, row: ColumnRow) -> RowRun
+pub fn run_at(ends: &[u8], offset: u64, len: u64, width: u8, row: ColumnRow) -> Result<RunRow, u8>
     ensures { result ≡ row_run (was ends) offset len width row.0 }
 {
     find(new(ends, offset, len, width), row)

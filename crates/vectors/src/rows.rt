@@ -2,8 +2,9 @@
 ghost use Rattle.std.specs.Prelude.{◌+◌, ◌≤◌, length};
 
 use number::Signed;
+use run_ends::RunRow;
 use slot_reader::leaf_row::Leaf;
-use slot_reader::run::{ColumnRow, RowRun};
+use slot_reader::run::ColumnRow;
 use slot_reader::view::Place;
 use slot_reader::{run, view};
 use std::io;
@@ -236,15 +237,15 @@ fn views(rt: &impl Print) -> io::Result<()> {
     put_view(rt, views, 48, body, 3, 20)
 }
 
-fn put_run(rt: &impl Print, r: RowRun) -> io::Result<()> {
+fn put_run(rt: &impl Print, r: Result<RunRow, u8>) -> io::Result<()> {
     match r {
-        RowRun::Run { run, left } => {
+        Ok(RunRow { run, left }) => {
             let k = run.0;
             put(rt, k as u64)?;
             rt.write_all(b"x ")?;
             put(rt, left)?;
         }
-        RowRun::Refused(g) => {
+        Err(g) => {
             word(rt, b"refused")?;
             put(rt, g as u64)?;
         }

@@ -7,8 +7,8 @@ use Rattle.aggregates.proofs.tally.Sums.{stretched, none_yet, hi_low}
 use Rattle.aggregates.specs.cells.Cells.{cell_at}
 use Rattle.aggregates.specs.declared.cell_sums.Numbers.{Numbers}
 use Rattle.aggregates.specs.declared.cell_sums.Stretch.{Stretch}
+use Rattle.std.specs.Prelude.{Ok}
 use Rattle.run_ends.specs.declared.PhysicalRun.{PhysicalRun}
-use Rattle.slot_reader.specs.declared.run.RowRun.TheVariants as answer
 use Rattle.aggregates.specs.cell_sums.Steps.{until_by, until_of}
 use Rattle.aggregates.specs.cell_sums.Numbers.{asked, cell_in, mask_cell, both_cells, Bounded, Flat}
 
@@ -73,7 +73,7 @@ pub until_plain : (body : List ℕ) (n : Numbers) (row : ℕ) → n.runs ≡ fal
 unfolding until_of
 until_plain body n row h = rw h
 
-pub until_run : (body : List ℕ) (n : Numbers) (row left : ℕ) (k : PhysicalRun) → n.runs ≡ true → asked body n row ≡ answer.Run k left → row + left ≡ until_of body n row
+pub until_run : (body : List ℕ) (n : Numbers) (row left : ℕ) (k : PhysicalRun) → n.runs ≡ true → asked body n row ≡ Ok (record { run = k; left = left }) → row + left ≡ until_of body n row
 unfolding until_of
 until_run body n row left k h e = sym (ap (λ b. cond b (until_by row (asked body n row)) (row + 1)) h ∙ ap (until_by row) e)
 

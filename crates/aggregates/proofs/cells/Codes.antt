@@ -1,6 +1,6 @@
 -- The eight whole-number formats by their codes. Assumes nothing.
-use Rattle.std.proofs.Common.{◌≡◌, ℕ, zero, suc, ◌+◌, ◌-◌, ◌<◌, ◌≤◌, Bool, true, false, ◌&&◌, T, eqb, leb, ◌⊎◌, sym, refl, ap, ◌∙◌, subst, inl, inr, arith, leb-true}
-use Rattle.columnar.specs.Types.{Number, width, limit}
+use Rattle.std.proofs.Common.{◌≡◌, ℕ, zero, suc, ◌-◌, ◌≤◌, true, leb, refl, inl, inr, arith, leb-true}
+use Rattle.columnar.specs.Types.{width, limit}
 use Rattle.columnar.specs.Wider.{integer}
 use Rattle.schema.specs.formats.Code.{is_integer, width_of}
 use Rattle.schema.specs.formats.Types.{number_of}

@@ -1,23 +1,20 @@
 -- A slot of a whole-number node is the row that the Columnar Format reads. Assumes nothing.
-use Rattle.std.proofs.Common.{◌≡◌, ℕ, zero, suc, ◌+◌, ◌-◌, ◌*◌, ◌/◌, ◌%◌, ◌^◌, ◌<◌, ◌≤◌, Bool, true, false, cond, not, eqb, ltb, leb, List, [], ◌∷◌, length, get_or, take, drop, sym, refl, ap, ◌∙◌, subst, ap₂, le_trans, mod-eq_of_lt, arith, length-drop, length-take, get_or-drop, get_or-take, ltb-false, ltb-true, le-ltb, lt-ltb}
+use Rattle.std.proofs.Common.{◌≡◌, ℕ, suc, ◌+◌, ◌-◌, ◌*◌, ◌/◌, ◌%◌, ◌^◌, ◌<◌, ◌≤◌, Bool, true, false, cond, not, eqb, ltb, List, length, get_or, drop, sym, refl, ap, ◌∙◌, ap₂, le_trans, mod-eq_of_lt, arith, length-drop, length-take, get_or-drop, get_or-take, ltb-false, ltb-true, le-ltb, lt-ltb}
 use mathlib.Core.Bool.{false≢true}
-use mathlib.Core.Option.{Option, none, some}
+use mathlib.Core.Option.{none, some}
 use native.Mathlib.Nat.{div-eq_of_lt}
-use Rattle.number.specs.Number.{number, signed}
-use Rattle.columnar.specs.Row.{Row, null, whole}
-use Rattle.columnar.specs.Types.{Number, int, uint, w1, w2, w4, w8, f32, f64, width, limit, fixed, t_plain}
+use Rattle.number.specs.Number.{number}
+use Rattle.columnar.specs.Types.{Number, int, uint, w1, w2, w4, w8, f32, f64, width, limit}
 use Rattle.columnar.specs.Wider.{integer}
 use Rattle.columnar.specs.Array.{item, bit, ok, sight, Mask}
 use Rattle.columnar.specs.Plain.{value}
-use Rattle.columnar.specs.Reading.{read}
 use Rattle.columnar.proofs.Items.{entry_end, item_lt}
-use Rattle.schema.specs.formats.Code.{is_integer, width_of}
-use Rattle.array_data.specs.Tables.{Tables, part, length_of, offset_of, place, valid_of, first_buffer, array_with}
+use Rattle.schema.specs.formats.Code.{is_integer}
+use Rattle.array_data.specs.Tables.{Tables, part, place, valid_of, first_buffer}
 use Rattle.array_data.proofs.entries.Laws.{holds_in, item_at}
-use Rattle.aggregates.specs.declared.tally.Cell.{Cell}
 use Rattle.aggregates.specs.tally.Cells.{cell, whole_cell, cell_of}
 use Rattle.aggregates.specs.declared.cells.Cells.{Cells}
-use Rattle.aggregates.specs.cells.Cells.{Held, number_at, cells_of, valid_at, below_at, pattern_cell, pattern_at, cell_at}
+use Rattle.aggregates.specs.cells.Cells.{Held, number_at, cells_of, valid_at, pattern_cell, pattern_at, cell_at}
 use Rattle.aggregates.proofs.cells.Codes.{code_width_lem, code_integer, code_sized, code_topped, code_wide}
 
 -- ---- a pattern

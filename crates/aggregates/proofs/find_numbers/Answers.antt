@@ -1,5 +1,5 @@
 -- `aggregates::find_numbers` meets its contract. Assumes nothing.
-use Rattle.std.proofs.Common.{◌-◌, true, false, ◌∙◌}
+use Rattle.std.proofs.Common.{◌∙◌}
 use Rattle.aggregates.proofs.Tallies.{runs_numbers, rows_numbers}
 use Rattle.aggregates.proofs.find_numbers.Goals as goal
 

@@ -1,5 +1,4 @@
 -- `aggregates::find_runs` meets its contract. Assumes nothing.
-use Rattle.std.proofs.Common.{◌-◌}
 use Rattle.aggregates.proofs.find_runs.Goals as goal
 
 pub returns : goal.returns

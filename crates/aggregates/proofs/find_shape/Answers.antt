@@ -1,5 +1,5 @@
 -- `aggregates::find_shape` meets its contract. Assumes nothing.
-use Rattle.std.proofs.Common.{◌≡◌, ℕ, ◌-◌, Bool, true, false, List, sym, ap, ◌∙◌}
+use Rattle.std.proofs.Common.{◌≡◌, ℕ, Bool, true, false, List, sym, ap, ◌∙◌}
 use Rattle.schema.specs.formats.Code.{is_run_end, width_of}
 use Rattle.schema.specs.Tree.{code_of}
 use Rattle.aggregates.specs.Shape.{whole_code, shape_of}

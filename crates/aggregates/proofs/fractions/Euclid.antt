@@ -1,5 +1,5 @@
 -- Euclid's algorithm gives the greatest common divisor. Assumes nothing.
-use Rattle.std.proofs.Common.{◌≡◌, ℕ, zero, suc, ◌+◌, ◌%◌, ◌<◌, Bool, true, false, cond, eqb, sym, refl, ap, ◌∙◌, subst, mod-lt, pos_of_ne-zero, arith, eq-eqb, ne_eqb, eqb-true}
+use Rattle.std.proofs.Common.{◌≡◌, ℕ, zero, suc, ◌%◌, ◌<◌, Bool, true, false, cond, eqb, sym, refl, ◌∙◌, subst, mod-lt, pos_of_ne-zero, arith, eq-eqb, ne_eqb, eqb-true}
 use Prim.Native.Nat.{◌∣◌}
 use native.Mathlib.Nat.{dvd_refl, dvd-zero, dvd-mod_iff}
 use borrow.Author.Tests.{eqb-false}

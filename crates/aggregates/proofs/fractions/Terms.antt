@@ -1,9 +1,8 @@
 -- THE FRACTION IS IN LOWEST TERMS: its value, its sign, coprime magnitudes, a denominator above zero; zero is plus 0 over 1. Assumes nothing.
-use Rattle.std.proofs.Common.{◌≡◌, ℕ, zero, suc, ◌*◌, ◌/◌, ◌%◌, ◌<◌, ◌≤◌, Bool, false, ℤ, pos, negsuc, nat_abs, sym, refl, ap, ◌∙◌, subst, mul_assoc, mul_comm, one-mul, div-le_self, arith}
+use Rattle.std.proofs.Common.{◌≡◌, ℕ, zero, suc, ◌*◌, ◌/◌, ◌<◌, false, ℤ, pos, negsuc, nat_abs, sym, refl, ap, ◌∙◌, subst, mul_assoc, mul_comm, one-mul, div-le_self, arith}
 use Prim.Native.Nat.{◌∣◌}
 use native.Mathlib.Nat.{div-mul_cancel, pos_of_dvd_of_pos, mul-dvd-mul_right, dvd_of_mul-dvd-mul_right, eq-one_of_dvd-one, dvd_antisymm, div_self, zero-div, dvd_refl, dvd-zero}
-use Rattle.aggregates.specs.declared.fractions.Fraction.{Fraction}
-use Rattle.aggregates.specs.fractions.Lowest.{gcd_of, is_minus, differ, lowest_of, fraction_of, IsGcd, Lowest}
+use Rattle.aggregates.specs.fractions.Lowest.{gcd_of, lowest_of, fraction_of, IsGcd, Lowest}
 use Rattle.aggregates.proofs.fractions.Euclid.{greatest}
 
 module _ (n d g : ℕ) (h : 0 < d) (is : IsGcd n d g) where

@@ -1,5 +1,5 @@
 -- `aggregates::mean` meets its contract. Assumes nothing.
-use Rattle.std.proofs.Common.{◌≡◌, ℕ, ◌-◌, ◌<◌, Bool, true, false, not, get_or, sym, refl, ◌∙◌}
+use Rattle.std.proofs.Common.{◌≡◌, ℕ, ◌<◌, Bool, true, false, not, get_or, sym, refl, ◌∙◌}
 use Rattle.source_rules.specs.kinds.Rows.{tables_of}
 use Rattle.columns.specs.Grounds.{column_ground}
 use Rattle.columns.specs.column_pair.Pair.{range_in}

@@ -1,5 +1,5 @@
 -- `aggregates::mean_of` meets its contract. Assumes nothing.
-use Rattle.std.proofs.Common.{◌≡◌, ℕ, ◌-◌, ◌<◌, true, false, ℤ, pos, negsuc, sym, ◌∙◌, subst, ap₂, to_z-of_z, w64, SFits, to_z, ltb-true, lt-ltb}
+use Rattle.std.proofs.Common.{◌≡◌, ℕ, ◌<◌, true, ℤ, pos, negsuc, sym, ◌∙◌, subst, ap₂, to_z-of_z, w64, SFits, to_z, ltb-true, lt-ltb}
 use Rattle.aggregates.specs.fractions.Lowest.{fraction_of}
 use Rattle.aggregates.specs.tally.Sums.{fits}
 use Rattle.aggregates.proofs.Answers.{total_out, total_in, mean_outside, mean_none, mean_done}

@@ -1,15 +1,12 @@
 -- `aggregates::ratio` meets its contract. Assumes nothing.
 use Rattle.std.proofs.Common.{◌≡◌, ℕ, ◌-◌, ◌<◌, Bool, true, false, not, get_or, sym, refl, ◌∙◌}
-use Rattle.array_data.specs.Typed.{tables_from}
 use Rattle.source_rules.specs.kinds.Rows.{tables_of}
 use Rattle.columns.specs.Grounds.{column_ground}
 use Rattle.columns.specs.column_pair.Pair.{range_in}
 use Rattle.columns.proofs.column_pair.Pair.{pair_none}
 use Rattle.array_data.specs.type_tree.Lent.{type_of}
-use Rattle.aggregates.specs.patterns.Parts.{Sized}
 use Rattle.aggregates.specs.Report.{whole_type, row_of, pair_of}
 use Rattle.aggregates.specs.cell_sums.Numbers.{cell_in}
-use Rattle.aggregates.specs.Shape.{numbers_of}
 use Rattle.aggregates.proofs.Rows.{column_typed}
 use Rattle.aggregates.proofs.Tallies.{shape_none, shape_some, numbers_same, in_range, its_sound, all_ready, its_sized, agreed}
 use Rattle.aggregates.proofs.Both.{both_count, both_sum, low_room, shorter, ratio_ground_lem, ratio_range_a, ratio_range_b, ratio_type_a, ratio_type_b, ratio_answer}

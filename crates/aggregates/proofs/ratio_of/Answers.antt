@@ -1,5 +1,5 @@
 -- `aggregates::ratio_of` meets its contract. Assumes nothing.
-use Rattle.std.proofs.Common.{◌≡◌, true, false, ℤ, pos, negsuc, sym, ap, ◌∙◌, subst, ap₂, to_z-of_z, w64, SFits, to_z, of_z, ltb-true}
+use Rattle.std.proofs.Common.{◌≡◌, true, ℤ, pos, negsuc, sym, ap, ◌∙◌, subst, ap₂, to_z-of_z, w64, SFits, to_z, of_z, ltb-true}
 use Rattle.aggregates.specs.fractions.Lowest.{fraction_of}
 use Rattle.aggregates.specs.tally.Sums.{fits}
 use Rattle.aggregates.specs.Report.{is_zero}

@@ -1,9 +1,8 @@
 -- THE STRETCH OF A ROW: the rows that are counted read as the value of the row's run. Assumes nothing.
-use Rattle.std.proofs.Common.{◌≡◌, ℕ, zero, suc, ◌+◌, ◌-◌, ◌*◌, ◌/◌, ◌^◌, ◌<◌, ◌≤◌, min, Bool, true, false, cond, T, ltb, leb, List, length, take, drop, sym, refl, ap, ◌∙◌, subst, ap₂, le_trans, mul_comm, mul-le-mul_left, zero-add, mul-one, mul-add, add-one, arith, length-drop, length-take, drop-drop, ltb-true, lt-ltb, le-leb}
+use Rattle.std.proofs.Common.{◌≡◌, ℕ, suc, ◌+◌, ◌-◌, ◌*◌, ◌/◌, ◌^◌, ◌<◌, ◌≤◌, min, true, false, List, length, drop, sym, refl, ap, ◌∙◌, subst, le_trans, mul_comm, mul-le-mul_left, mul-one, mul-add, add-one, arith, length-drop, length-take, drop-drop, lt-ltb}
 use mathlib.Core.Option.{Option, none, some}
 use native.Mathlib.Nat.{mul-div_cancel_left}
 use Rattle.number.specs.Number.{number, entry}
-use Rattle.columnar.specs.Row.{Row}
 use Rattle.columnar.specs.Types.{half, Ty, t_run_end}
 use Rattle.columnar.specs.Formed.{RunWidth, two, four, eight}
 use Rattle.columnar.specs.Array.{Array, item, ok, sight, Mask}
@@ -14,11 +13,11 @@ use Rattle.columnar.proofs.Items.{entry_end}
 use Rattle.array_data.specs.Tables.{Tables, part, length_of, offset_of, place, valid_of, first_buffer, array_with}
 use Rattle.array_data.specs.Typed.{Tree, column_of, body_of}
 use Rattle.array_data.proofs.entries.Laws.{number_cut}
-use Rattle.run_ends.specs.Lookup.{Climbs, Rising, bisect, found_at}
+use Rattle.run_ends.specs.Lookup.{Rising, bisect}
+use Rattle.std.specs.Prelude.{Result, Ok, Err}
 use Rattle.run_ends.specs.declared.PhysicalRun.{PhysicalRun}
+use Rattle.run_ends.specs.declared.RunRow.{RunRow}
 use Rattle.run_ends.proofs.Laws.{bisect_first}
-use Rattle.slot_reader.specs.declared.run.RowRun.{RowRun}
-use Rattle.slot_reader.specs.declared.run.RowRun.TheVariants as answer
 use Rattle.slot_reader.specs.run.Rows.{is_width, row_run}
 use Rattle.aggregates.specs.declared.stretches.Ends.{Ends}
 use Rattle.aggregates.specs.stretches.Ends.{ends_of}
@@ -96,7 +95,7 @@ module _ (w : ℕ) (of_width : RunWidth w) (body : List ℕ) (from size : ℕ) (
     above : off + row < end_of w ends (run (off + row))
     above = first_above_lem (end_of w ends) (off + row) 0 ends.len (let z : 0 + ends.len ≡ ends.len = omega arith in subst (λ q. run (off + row) < q) (sym z) below)
 
-    looked : row_run handed off len w row ≡ answer.Run (record { 0 = run (off + row) }) left
+    looked : row_run handed off len w row ≡ Ok (record { run = record { 0 = run (off + row) }; left = left })
     looked =
         rw (lt-ltb row len inside, lt-ltb (off + len) (2 ^ 64) low, width_is w of_width, many, found_is (off + row), lt-ltb (run (off + row)) ends.len below, end_is (run (off + row)) below, lt-ltb (off + row) (end_of w ends (run (off + row))) above)
 
@@ -115,11 +114,8 @@ no_mask_lem : (v : Option (List ℕ)) (n : ℕ) → Mask false v n → (i : ℕ)
 no_mask_lem none n h i = refl
 no_mask_lem (some m) n h i = absurd h
 
-runs : {a b : PhysicalRun} {m n : ℕ} → answer.Run a m ≡ answer.Run b n → a ≡ b
-runs q = cc
-
-lefts : {a b : PhysicalRun} {m n : ℕ} → answer.Run a m ≡ answer.Run b n → m ≡ n
-lefts q = cc
+same_answer : {a b : RunRow} → ◌≡◌ {A = Result RunRow ℕ} (Ok a) (Ok b) → a ≡ b
+same_answer q = cc
 
 -- what an answer says: the rows from `row` on read as row `run` of the values
 pub record Stretch (tree : Tree) (x : Tables) (w : ℕ) (u : Ty) (row run left : ℕ) : Type 0 where
@@ -143,7 +139,7 @@ module _ (tree : Tree) (x : Tables) (w : ℕ) (of_width : RunWidth w) (u : Ty) (
       let f = fits w of_width x.body (place x 1 3) (place x 1 4) ends refl rule.hold rule.positive rule.rises in
       omega (arith, f, mul-add w (offset_of x 1) (length_of x 1), length-take (place x 1 4) (drop (place x 1 3) x.body), length-drop (place x 1 3) x.body)
 
-  abbrev asked : ℕ → RowRun
+  abbrev asked : ℕ → Result RunRow ℕ
   asked row = row_run (part x.body e.start (e.stop - e.start)) e.offset e.len e.width row
 
   module _ (row : ℕ) (l : row < length_of x 0) where
@@ -168,7 +164,7 @@ module _ (tree : Tree) (x : Tables) (w : ℕ) (of_width : RunWidth w) (u : Ty) (
         let some : 1 ≤ w * length_of x 1 = le_trans (wide w of_width) (omega (arith, mul-le-mul_left w one, mul-one w)) in
         (omega (arith, m), omega (arith, f, m, some, length-take (place x 1 4) (drop (place x 1 3) x.body), length-drop (place x 1 3) x.body))
 
-    pub answered_is : asked row ≡ answer.Run (record { 0 = its_run }) its_left
+    pub answered_is : asked row ≡ Ok (record { run = record { 0 = its_run }; left = its_left })
     answered_is =
         let rule = src.slots in
         let m : e.stop - e.start ≡ w * length_of x 1 = omega (arith, mul-add w (offset_of x 1) (length_of x 1)) in
@@ -190,15 +186,12 @@ module _ (tree : Tree) (x : Tables) (w : ℕ) (of_width : RunWidth w) (u : Ty) (
         }
 
     -- AN ANSWERED RUN is a stretch of rows
-    pub stretch_run : (k : PhysicalRun) (left : ℕ) → asked row ≡ answer.Run k left → Stretch tree x w u row k.0 left
+    pub stretch_run : (k : PhysicalRun) (left : ℕ) → asked row ≡ Ok (record { run = k; left = left }) → Stretch tree x w u row k.0 left
     stretch_run k left q = go (sym answered_is ∙ q)
       where
-        go : answer.Run (record { 0 = its_run }) its_left ≡ answer.Run k left → Stretch tree x w u row k.0 left
-        go r =
-            let a : record { 0 = its_run } ≡ k = runs r in
-            let b : its_left ≡ left = lefts r in
-            subst (λ n. Stretch tree x w u row k.0 n) b (subst (λ p. Stretch tree x w u row p.0 its_left) a its_stretch)
+        go : ◌≡◌ {A = Result RunRow ℕ} (Ok (record { run = record { 0 = its_run }; left = its_left })) (Ok (record { run = k; left = left })) → Stretch tree x w u row k.0 left
+        go r = subst (λ (a : RunRow). Stretch tree x w u row a.run.0 a.left) (same_answer r) its_stretch
 
     -- .. and a row of the column is never refused
-    pub stretch_some : (g : ℕ) → asked row ≡ answer.Refused g → ⊥
+    pub stretch_some : (g : ℕ) → asked row ≡ Err g → ⊥
     stretch_some g q = let r = sym answered_is ∙ q in let z : ◌≡◌ {A = ℕ} 0 1 = cc in omega arith

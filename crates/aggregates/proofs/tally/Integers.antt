@@ -1,8 +1,8 @@
 -- Sums over the integers by natural numbers. Assumes nothing.
-use Rattle.std.proofs.Common.{◌≡◌, ℕ, zero, suc, ◌+◌, ◌-◌, ◌*◌, ◌/◌, ◌%◌, ◌<◌, ◌≤◌, Bool, true, false, ltb, List, [], ◌∷◌, ◌++◌, ℤ, pos, negsuc, ◌+ℤ◌, ◌-ℤ◌, neg_ℤ, sym, refl, ap, ◌∙◌, subst, ap₂, mod-lt, suc-mul, add-mul, div-add-mod', arith, le-ltb, lt-ltb}
-use lib.IntN.{sub_ℕ, +ℤ_assoc, +ℤ_comm, +ℤ_idl, +ℤ_idr, pos-+ℤ-pos, -ℤ-+ℤ_cancel, +ℤ-neg_ℤ_cancel}
+use Rattle.std.proofs.Common.{◌≡◌, ℕ, suc, ◌+◌, ◌-◌, ◌*◌, ◌/◌, ◌%◌, ◌<◌, ◌≤◌, Bool, true, false, ltb, List, [], ◌∷◌, ◌++◌, ℤ, pos, negsuc, ◌+ℤ◌, ◌-ℤ◌, sym, refl, ap, ◌∙◌, ap₂, mod-lt, suc-mul, add-mul, div-add-mod', arith, le-ltb, lt-ltb}
+use lib.IntN.{sub_ℕ, +ℤ_assoc, +ℤ_comm, +ℤ_idl, pos-+ℤ-pos, -ℤ-+ℤ_cancel, +ℤ-neg_ℤ_cancel}
 use Rattle.columnar.specs.Row.{Row, null, whole, single, double, bytes, list, union}
-use Rattle.aggregates.specs.tally.Sums.{count_in, number_in, count_of, sum_of}
+use Rattle.aggregates.specs.tally.Sums.{number_in, count_of, sum_of}
 use Rattle.aggregates.specs.tally.Cells.{whole_cell, cell_of, bits_of, below_of}
 
 -- (a + b) + (c + d) is (a + c) + (b + d)

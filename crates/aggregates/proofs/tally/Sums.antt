@@ -1,5 +1,5 @@
 -- A tally of cells, stretch by stretch, and the rows that the cells stand for. Assumes nothing.
-use Rattle.std.proofs.Common.{◌≡◌, ℕ, zero, suc, ◌+◌, ◌-◌, ◌*◌, ◌<◌, ◌≤◌, List, [], ◌∷◌, ◌++◌, ℤ, pos, negsuc, ◌-ℤ◌, sym, refl, ap, ◌∙◌, subst, ap₂, le_trans, le_of_eq, mul-le-mul_right, mul_comm, add-mul, mul-le-mul_left, mul-zero, mul-suc, le_of_mul-le-mul_right, arith}
+use Rattle.std.proofs.Common.{◌≡◌, ℕ, zero, suc, ◌+◌, ◌-◌, ◌*◌, ◌<◌, ◌≤◌, pos, negsuc, ◌-ℤ◌, sym, refl, ap, ◌∙◌, subst, ap₂, le_trans, le_of_eq, mul-le-mul_right, mul_comm, add-mul, mul-le-mul_left, mul-zero, mul-suc, le_of_mul-le-mul_right, arith}
 use Rattle.columnar.specs.Row.{Row, null, whole, single, double, bytes, list, union, seg}
 use Rattle.aggregates.specs.declared.tally.Cell.{Cell}
 use Rattle.aggregates.specs.declared.tally.Tally.{Tally}

@@ -1,6 +1,6 @@
 -- Which sums 64 bits hold, by two halves and what is below zero. Assumes nothing.
 use Rattle.std.specs.Prelude.{Some, None}
-use Rattle.std.proofs.Common.{◌≡◌, ℕ, zero, suc, ◌+◌, ◌-◌, ◌*◌, ◌^◌, ◌<◌, ◌≤◌, Bool, true, false, cond, ltb, ℤ, pos, negsuc, ◌+ℤ◌, sym, refl, ap, ◌∙◌, subst, arith, le-ltb, lt-ltb}
+use Rattle.std.proofs.Common.{◌≡◌, ℕ, suc, ◌+◌, ◌-◌, ◌*◌, ◌<◌, ◌≤◌, true, false, ℤ, pos, negsuc, ◌+ℤ◌, ap, ◌∙◌, arith, le-ltb, lt-ltb}
 use Rattle.number.specs.Number.{signed}
 use Rattle.aggregates.specs.tally.Sums.{fits, total_of}
 use Rattle.aggregates.proofs.tally.Integers.{reached}

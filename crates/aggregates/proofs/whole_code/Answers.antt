@@ -1,5 +1,5 @@
 -- `aggregates::whole_code` meets its contract. Assumes nothing.
-use Rattle.std.proofs.Common.{◌≡◌, ℕ, ◌-◌, Bool, true, false, List, sym, ap, ◌∙◌, eq-eqb, ne_eqb}
+use Rattle.std.proofs.Common.{◌≡◌, ℕ, Bool, true, false, List, sym, ap, ◌∙◌, eq-eqb, ne_eqb}
 use Rattle.schema.specs.formats.Code.{is_integer}
 use Rattle.schema.specs.Tree.{dictionary, code_of}
 use Rattle.aggregates.specs.Shape.{whole_code}

@@ -1,6 +1,5 @@
 -- The product of two numbers by halves. Assumes nothing.
-use Rattle.std.proofs.Common.{◌≡◌, ℕ, zero, suc, ◌+◌, ◌*◌, ◌/◌, ◌%◌, ◌<◌, ◌≤◌, sym, refl, ap, ◌∙◌, subst, ap₂, add_assoc, mul_assoc, mul_comm, add-mul, mul-le-mul, add_comm, mul-add, mul_right_comm, mul_left_comm, arith}
-use native.Mathlib.Nat.{add_left_comm}
+use Rattle.std.proofs.Common.{◌≡◌, ℕ, ◌+◌, ◌*◌, ◌/◌, ◌%◌, ◌<◌, ◌≤◌, sym, refl, ap, ◌∙◌, ap₂, add_assoc, mul_assoc, mul_comm, add-mul, mul-le-mul, mul-add, mul_right_comm, mul_left_comm, arith}
 
 -- (a1 * B + a0) * (b1 * B + b0)
 pub halves : (B a1 a0 b1 b0 : ℕ) → (a1 * B + a0) * (b1 * B + b0) ≡ a1 * b1 * (B * B) + (a1 * b0 * B + (a0 * b1 * B + a0 * b0))

@@ -1,11 +1,9 @@
 -- The rows of a whole-number column as cells. Assumes nothing.
-use Rattle.std.specs.Prelude.{◌≡◌, ℕ, ◌+◌, ◌-◌, ◌^◌, ◌<◌, ◌≤◌, Bool, true, false, cond, List, length, ◌==◌, ◌≢◌}
+use Rattle.std.specs.Prelude.{◌≡◌, ℕ, ◌+◌, ◌-◌, ◌^◌, ◌<◌, ◌≤◌, true, false, cond, List, length, ◌==◌, ◌≢◌, Result, Ok, Err}
 use Rattle.array_data.specs.Tables.{part}
 use Rattle.run_ends.specs.declared.PhysicalRun.{PhysicalRun}
-use Rattle.slot_reader.specs.declared.run.RowRun.{RowRun}
-use Rattle.slot_reader.specs.declared.run.RowRun.TheVariants as answer
+use Rattle.run_ends.specs.declared.RunRow.{RunRow}
 use Rattle.slot_reader.specs.run.Rows.{row_run}
-use Rattle.aggregates.specs.declared.stretches.Ends.{Ends}
 use Rattle.aggregates.specs.declared.tally.Cell.{Cell}
 use Rattle.aggregates.specs.tally.Cells.{cell}
 use Rattle.aggregates.specs.cells.Cells.{Held, cell_at}
@@ -14,13 +12,13 @@ use Rattle.aggregates.specs.declared.cell_sums.Stretch.{Stretch}
 
 module _ (body : List ℕ) (n : Numbers) where
   -- the run of a row, as it is looked up
-  abbrev pub asked : ℕ → RowRun
+  abbrev pub asked : ℕ → Result RunRow ℕ
   asked row = row_run (part body n.ends.start (n.ends.stop - n.ends.start)) n.ends.offset n.ends.len n.ends.width row
 
   -- the value of a run
-  abbrev pub value_at : RowRun → Cell
-  value_at (answer.Run k left) = cell_at body n.cells (n.skip + k.0)
-  value_at (answer.Refused g) = cell 0 0 0
+  abbrev pub value_at : Result RunRow ℕ → Cell
+  value_at (Ok r) = cell_at body n.cells (n.skip + r.run.0)
+  value_at (Err g) = cell 0 0 0
 
   -- the cell of a row
   unfoldable pub cell_in : ℕ → Cell
@@ -37,8 +35,8 @@ module _ (body : List ℕ) (n : Numbers) where
   pub record Ready (row : ℕ) : Type 0 where
     pub plain : n.runs ≡ false → (n.skip + row < 2 ^ 64) × Held body n.cells (n.skip + row)
     pub ends_held : n.runs ≡ true → (n.ends.start ≤ n.ends.stop) × (n.ends.stop ≤ length body)
-    pub found : n.runs ≡ true → (k : PhysicalRun) (left : ℕ) → asked row ≡ answer.Run k left → Found row k left
-    pub some_run : n.runs ≡ true → (g : ℕ) → asked row ≢ answer.Refused g
+    pub found : n.runs ≡ true → (k : PhysicalRun) (left : ℕ) → asked row ≡ Ok (record { run = k; left = left }) → Found row k left
+    pub some_run : n.runs ≡ true → (g : ℕ) → asked row ≢ Err g
 
   abbrev pub AllReady : ℕ → ℕ → Type 0
   AllReady start end = (row : ℕ) → start ≤ row → row < end → Ready row

@@ -1,14 +1,13 @@
 -- How many stretches of one value the rows of a column have. Assumes nothing.
-use Rattle.std.specs.Prelude.{ℕ, zero, suc, ◌+◌, ◌-◌, max, cond, List, nat_lt}
-use Rattle.slot_reader.specs.declared.run.RowRun.{RowRun}
-use Rattle.slot_reader.specs.declared.run.RowRun.TheVariants as answer
+use Rattle.std.specs.Prelude.{ℕ, zero, suc, ◌+◌, ◌-◌, max, cond, List, nat_lt, Result, Ok, Err}
+use Rattle.run_ends.specs.declared.RunRow.{RunRow}
 use Rattle.aggregates.specs.declared.cell_sums.Numbers.{Numbers}
 use Rattle.aggregates.specs.cell_sums.Numbers.{asked}
 
 -- behind the rows that are left of a run
-abbrev pub until_by : ℕ → RowRun → ℕ
-until_by row (answer.Run k left) = row + left
-until_by row (answer.Refused g) = row + 1
+abbrev pub until_by : ℕ → Result RunRow ℕ → ℕ
+until_by row (Ok r) = row + r.left
+until_by row (Err g) = row + 1
 
 -- where the stretch of a row ends: with its run; a plain row is one of its own
 unfoldable pub until_of : List ℕ → Numbers → ℕ → ℕ

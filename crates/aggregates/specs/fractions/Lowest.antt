@@ -1,6 +1,6 @@
 -- Fractions in lowest terms: W8, "a fraction in lowest terms with a positive denominator, given as a sign and two magnitudes of 64 bits, zero
 -- as plus 0 over 1". Assumes nothing.
-use Rattle.std.specs.Prelude.{◌≡◌, ℕ, zero, suc, ◌*◌, ◌/◌, ◌%◌, ◌<◌, ◌≤◌, Bool, true, false, cond, not, ◌&&◌, ℤ, pos, negsuc, ◌==◌, unsigned_abs}
+use Rattle.std.specs.Prelude.{◌≡◌, ℕ, zero, suc, ◌*◌, ◌/◌, ◌%◌, ◌<◌, ◌≤◌, Bool, true, false, cond, not, ℤ, pos, negsuc, ◌==◌, unsigned_abs}
 use Rattle.std.specs.Int.{◌∣◌}
 use Rattle.aggregates.specs.declared.fractions.Fraction.{Fraction}
 

@@ -1,4 +1,3 @@
-use Prim.Native.Nat.{◌-◌}
 use Rattle.row_reader.proofs.+read_at.Given as goal
 
 abbrev pub decreases-read_at : goal.decreases-read_at

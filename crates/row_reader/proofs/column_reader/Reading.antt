@@ -1,12 +1,12 @@
 -- A ROW THAT IS READ IS THE COLUMNAR FORMAT'S, of every accepted column; every other column is refused by its ground. Assumes nothing.
-use mathlib.Core.Path.{◌≡◌, refl, sym, ap, subst, ◌∙◌}
+use mathlib.Core.Path.{◌≡◌, refl, sym}
 use mathlib.Core.Bool.{Bool, true, false, cond, ◌&&◌, false≢true}
 use mathlib.Core.List.{List}
-use Prim.Native.Nat.{ℕ, zero, suc, ◌+◌, ◌≤◌, ◌<◌, ◌^◌}
+use Prim.Native.Nat.{ℕ, ◌+◌, ◌<◌, ◌^◌}
 use native.Mathlib.Omega.{arith}
 use lib.ListN.{get_or}
 use Rattle.columnar.specs.Reading.{read}
-use Rattle.schema.specs.Tree.{ceilings, typed}
+use Rattle.schema.specs.Tree.{typed}
 use Rattle.array_data.specs.Tables.{Tables, length_of, offset_of}
 use Rattle.array_data.specs.Typed.{column_of, tables_from, source_rule}
 use Rattle.array_data.specs.type_tree.Lent.{tree_of, type_of}

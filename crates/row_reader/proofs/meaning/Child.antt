@@ -3,15 +3,15 @@ use mathlib.Core.Path.{◌≡◌, refl, ap, sym, subst, ◌∙◌}
 use mathlib.Core.Bool.{Bool, true, false, cond}
 use mathlib.Core.List.Memᴰ
 use mathlib.Core.List.{List, [], ◌∷◌, Memᴰ}
-use Prim.Native.Nat.{ℕ, zero, suc, ◌+◌, ◌*◌, ◌-◌, ◌/◌, ◌%◌, ◌≤◌, ◌<◌, min}
+use Prim.Native.Nat.{ℕ, zero, suc, ◌+◌, ◌*◌, ◌-◌, ◌/◌, ◌%◌, ◌≤◌, ◌<◌}
 use native.Mathlib.Omega.{arith}
 use lib.ListN.{length, get_or}
 use lib.Dec.{ltb, eqb}
-use borrow.Author.Tests.{lt-ltb, le-ltb, eq-eqb, ne_eqb, eqb-true, eqb-false, ltb-true, ltb-false}
+use borrow.Author.Tests.{lt-ltb, eq-eqb, ne_eqb, eqb-true, eqb-false, ltb-true, ltb-false}
 use Rattle.std.specs.Prelude.{Some, None}
 use Rattle.columnar.specs.Row.{seg}
 use Rattle.schema.specs.Tree.{dictionary, below, end_of, child_at, whole, code_of, ids_of}
-use Rattle.schema.proofs.Trees.{end_after, child_inside, children_end}
+use Rattle.schema.proofs.Trees.{end_after, child_inside}
 use Rattle.schema.proofs.Depth.{nested, child_before}
 use Rattle.array_data.specs.Typed.{field_of}
 use Rattle.array_data.specs.node_words.Words.{word, id_from, id_below, word_of, planted, id_under, child_id}

@@ -1,34 +1,33 @@
 -- THE THEOREM: a row that is read of an accepted column is the row of crate `columnar`. Assumes nothing.
 use mathlib.Core.Path.{◌≡◌, refl, ap, sym, subst, ◌∙◌}
-use mathlib.Core.Bool.{Bool, true, false, cond, ◌&&◌}
-use mathlib.Core.Option.{Option, none, some}
+use mathlib.Core.Bool.{Bool, true, false, ◌&&◌}
 use mathlib.Core.List.Memᴰ
 use mathlib.Core.List.{List, [], ◌∷◌, Memᴰ}
 use Prim.Native.Nat.{ℕ, zero, suc, ◌+◌, ◌*◌, ◌-◌, ◌^◌, ◌≤◌, ◌<◌}
 use native.Mathlib.Nat.{mul-one}
 use native.Mathlib.Omega.{arith}
 use lib.ListN.{length, get_or}
-use lib.Dec.{T, leb, ltb}
+use lib.Dec.{T, leb}
 use borrow.Author.Tests.{le-leb, lt-ltb, leb-true}
 use Rattle.std.specs.Prelude.{}
-use Rattle.columnar.specs.Row.{Row, null, bytes, union}
+use Rattle.columnar.specs.Row.{Row, null, union}
 use Rattle.columnar.specs.Types.{Number, width, Plain, fixed, string, Ty, t_plain, t_view, t_list_view, t_list, t_sparse, t_dense, t_run_end, t_dictionary}
 use Rattle.columnar.specs.Formed.{OffsetWidth, RunWidth, FormedPlain, Ids}
-use Rattle.columnar.specs.Array.{Array, item, ok, sight}
+use Rattle.columnar.specs.Array.{item, ok, sight}
 use Rattle.columnar.specs.Plain.{StringRule, OffsetsRule, empty, full}
 use Rattle.columnar.specs.Test.{every}
 use Rattle.columnar.specs.Reading.{masks, slot_at, read, Source}
-use Rattle.columnar.specs.RunEnd.{end_of, first_above, start_of}
+use Rattle.columnar.specs.RunEnd.{end_of, first_above}
 use Rattle.columnar.proofs.Items.{item_one}
 use Rattle.columnar.proofs.Test.{every_out}
 use Rattle.schema.specs.Tree.{below, child_at, depth, whole, ceilings, typed}
 use Rattle.schema.proofs.Trees.{child_inside}
 use Rattle.schema.proofs.Depth.{child_depth}
 use Rattle.schema.proofs.Known.{typed_whole, within_nodes, within_depth}
-use Rattle.array_data.specs.Tables.{Tables, length_of, offset_of, place, valid_of, first_buffer, second_buffer, array_with, held, valid_in, in_body}
+use Rattle.array_data.specs.Tables.{Tables, length_of, offset_of, place, valid_of, first_buffer, second_buffer, array_with, in_body}
 use Rattle.array_data.specs.Rules.{one_in, buffers_in}
 use Rattle.array_data.proofs.type_tree.ByKind.{plain_as, ty_as, type_by_lem}
-use Rattle.array_data.specs.NodeKinds.{NodeKind, fixed_node, string_node, view_node, list_view_node, list_node, sparse_node, dense_node, run_end_node, dictionary_node, kind_at}
+use Rattle.array_data.specs.NodeKinds.{NodeKind, fixed_node, string_node, view_node, list_view_node, list_node, sparse_node, dense_node, run_end_node, kind_at}
 use Rattle.array_data.specs.Typed.{field_of, node_of, body_of, column_of, kind_rule, node_rule, source_rule, tables_from}
 use Rattle.array_data.specs.type_tree.Lent.{tree_of, ty_of, type_of}
 use Rattle.array_data.proofs.type_tree.Ids.{field_in_lem}
@@ -37,18 +36,16 @@ use Rattle.array_data.proofs.type_tree.Shaped.{Shaped, of_plain_lem, of_view, of
 use Rattle.array_data.proofs.type_tree.Source.{lent_source}
 use Rattle.array_data.proofs.lent_tables.Laws.{and_left, and_right}
 use Rattle.array_data.specs.entries.Entries.{entry_in, valid_bit}
-use Rattle.slot_reader.specs.declared.RowRead.{RowRead}
 use Rattle.slot_reader.specs.declared.RowRead.TheVariants as row
-use Rattle.slot_reader.specs.Slots.{known, kind_word, list_view_read, list_read, stored_by, entry_by, named_at, keyed, dictionary_read}
+use Rattle.slot_reader.specs.Slots.{kind_word, list_view_read, list_read, stored_by, entry_by, named_at, keyed, dictionary_read}
 use Rattle.array_data.specs.node_words.Words.{planted}
-use Rattle.row_reader.specs.declared.Step.{Step}
 use Rattle.row_reader.specs.declared.Step.TheVariants as step
-use Rattle.row_reader.specs.Walk.{child_of, chosen, into, under_id, ran, run_of, runs_step, step_by, step_on, sighted, step_at, Walked, walked_to, under, follow, walk, is_refused, kept, row_at}
+use Rattle.row_reader.specs.Walk.{into, under_id, ran, run_of, runs_step, step_by, step_on, sighted, step_at, Walked, walked_to, follow, walk, is_refused, row_at}
 use Rattle.row_reader.proofs.Laws.{at_slot}
-use Rattle.row_reader.specs.meaning.Meaning.{flat, meaning}
+use Rattle.row_reader.specs.meaning.Meaning.{meaning}
 use Rattle.row_reader.proofs.meaning.Child.{words, found_child}
 use Rattle.row_reader.proofs.meaning.Words.{plainer, ids_few, sparse_ids, dense_ids, node_shaped, kind_word_lem, known_word}
-use Rattle.row_reader.proofs.meaning.Slots.{Gives, wide, number_sized, offset_sized, offset_wide, entry_slot, number_gives, stored_gives, list_rows_lem, string_gives, entry_gives, valid_known}
+use Rattle.row_reader.proofs.meaning.Slots.{wide, number_sized, offset_sized, offset_wide, entry_slot, number_gives, stored_gives, list_rows_lem, string_gives, entry_gives, valid_known}
 use Rattle.row_reader.proofs.meaning.Views.{view_gives}
 use Rattle.row_reader.proofs.meaning.Runs.{ran_is, ran_below}
 use Rattle.array_data.proofs.Names.{ids_or}

@@ -1,14 +1,14 @@
 -- The run that the run reader answers for a row is the one that the Columnar Format reads, and the rows that it counts are those that fall in it.
 -- Assumes nothing.
 use mathlib.Core.Path.{◌≡◌, refl, ap, sym, subst, ◌∙◌}
-use mathlib.Core.Bool.{Bool, true, false, cond, ◌&&◌}
+use mathlib.Core.Bool.{Bool, true, false, cond}
 use mathlib.Core.List.{List}
 use Prim.Native.Nat.{ℕ, zero, suc, ◌+◌, ◌*◌, ◌-◌, ◌/◌, ◌^◌, ◌≤◌, ◌<◌}
 use native.Mathlib.Nat.{zero-add, mul_comm}
 use native.Mathlib.Numerals.{add-one}
 use native.Mathlib.Omega.{arith}
 use lib.ListN.{length, drop}
-use lib.Dec.{leb, ltb}
+use lib.Dec.{ltb}
 use borrow.Author.Tests.{le-leb, lt-ltb}
 use Rattle.number.specs.Number.{number, entry}
 use Rattle.columnar.specs.Types.{half}
@@ -20,8 +20,8 @@ use Rattle.columnar.proofs.Items.{item_cut, length_cut}
 use Rattle.run_ends.specs.Lookup as lookup
 use Rattle.run_ends.specs.Lookup.{scan, left_of, Climbs, Covers, Rising}
 use Rattle.run_ends.proofs.Left.{Left}
+use Rattle.std.specs.Prelude.{Ok}
 use Rattle.slot_reader.specs.run.Rows.{is_width, row_run}
-use Rattle.slot_reader.specs.declared.run.RowRun.TheVariants as answer
 use Rattle.slot_reader.proofs.run.Laws.{row_left}
 use Rattle.row_reader.specs.Walk.{ends_in, run_in, ran}
 use Rattle.row_reader.specs.declared.Step.TheVariants as step
@@ -111,7 +111,7 @@ module _ (w : ℕ) (d : RunWidth w) (s : List ℕ) (ends : Array (List ℕ)) (sa
     left = left_of (end_of w ends run) (offset + rows) (offset + r)
 
     found : (row_run bytes offset rows w r
-        ≡ answer.Run (record { 0 = lookup.first_above w bytes 0 count (offset + r) }) (left_of (entry w bytes 0 (lookup.first_above w bytes 0 count (offset + r))) (offset + rows) (offset + r)))
+        ≡ Ok (record { run = record { 0 = lookup.first_above w bytes 0 count (offset + r) }; left = left_of (entry w bytes 0 (lookup.first_above w bytes 0 count (offset + r))) (offset + rows) (offset + r) }))
         × Left (entry w bytes 0) count (offset + rows) (offset + r) (lookup.first_above w bytes 0 count (offset + r))
         (left_of (entry w bytes 0 (lookup.first_above w bytes 0 count (offset + r))) (offset + rows) (offset + r))
     found =
@@ -125,10 +125,10 @@ module _ (w : ℕ) (d : RunWidth w) (s : List ℕ) (ends : Array (List ℕ)) (sa
     left_of_lem = ap (λ (y : ℕ). left_of y (offset + rows) (offset + r)) end_of_lem
 
     -- the run reader's answer
-    pub answers : row_run bytes offset rows w r ≡ answer.Run (record { 0 = run }) left
+    pub answers : row_run bytes offset rows w r ≡ Ok (record { run = record { 0 = run }; left = left })
     answers =
-        found.0 ∙ ap (λ (k : ℕ). answer.Run (record { 0 = k }) (left_of (entry w bytes 0 (lookup.first_above w bytes 0 count (offset + r))) (offset + rows) (offset + r))) (run_is (offset + r))
-        ∙ ap (answer.Run (record { 0 = run })) left_of_lem
+        found.0 ∙ ap (λ (k : ℕ). Ok (record { run = record { 0 = k }; left = left_of (entry w bytes 0 (lookup.first_above w bytes 0 count (offset + r))) (offset + rows) (offset + r) })) (run_is (offset + r))
+        ∙ ap (λ (m : ℕ). Ok (record { run = record { 0 = run }; left = m })) left_of_lem
 
     -- exactly the rows of the column that still fall in the run
     pub falls : FallIn (end_of w ends) ends.len offset rows r run left
@@ -143,7 +143,7 @@ module _ (w : ℕ) (d : RunWidth w) (s : List ℕ) (ends : Array (List ℕ)) (sa
         }
 
     module _ (small : ends.off + ends.len < 2 ^ 64) where
-      pub read_is : run_in w s ends.off ends.len offset rows r ≡ answer.Run (record { 0 = run }) left
+      pub read_is : run_in w s ends.off ends.len offset rows r ≡ Ok (record { run = record { 0 = run }; left = left })
       unfolding run_in
       read_is = rw (lt-ltb (ends.off + ends.len) (2 ^ 64) small, le-leb ((ends.off + ends.len) * w) (length s) fits) answers
 

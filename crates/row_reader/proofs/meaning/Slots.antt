@@ -2,36 +2,28 @@
 use mathlib.Core.Path.{◌≡◌, refl, ap, sym, subst, ◌∙◌}
 use mathlib.Core.Bool.{Bool, true, false, cond}
 use mathlib.Core.Option.{Option, none, some}
-use mathlib.Core.List.{List, [], ◌∷◌}
-use Prim.Native.Nat.{ℕ, zero, suc, ◌+◌, ◌*◌, ◌-◌, ◌/◌, ◌^◌, ◌≤◌, ◌<◌}
+use mathlib.Core.List.{List}
+use Prim.Native.Nat.{ℕ, zero, suc, ◌+◌, ◌*◌, ◌-◌, ◌/◌, ◌≤◌, ◌<◌}
 use native.Mathlib.Numerals.{add-one}
 use native.Mathlib.Omega.{arith}
-use lib.ListN.{length, take, drop, get_or, length-take, length-drop, get_or-eq_default}
+use lib.ListN.{length, take, drop, get_or, length-take, get_or-eq_default}
 use lib.Seq.{drop-drop, get_or-drop, get_or-take}
-use lib.Dec.{T, leb, ltb, eqb}
-use borrow.Author.Tests.{le-leb, lt-leb, leb-true, leb-false, lt-ltb, le-ltb, ltb-true, ltb-false}
-use Rattle.number.specs.Number.{number}
-use Rattle.columnar.specs.Row.{Row, null, bytes}
+use lib.Dec.{ltb}
+use borrow.Author.Tests.{lt-ltb, ltb-true, ltb-false}
+use Rattle.columnar.specs.Row.{Row, bytes}
 use Rattle.columnar.specs.Types.{Number, int, uint, w1, w2, w4, w8, f32, f64, width}
 use Rattle.columnar.specs.Formed.{OffsetWidth, four, eight}
-use Rattle.columnar.specs.Array.{item, bit, ok, sight, Mask}
-use Rattle.columnar.specs.Plain.{Text, value, span, OffsetsTo, Offsets}
-use Rattle.columnar.specs.View.{shown, view_of, length_of, buffer_of, offset_of, ViewGood}
+use Rattle.columnar.specs.Array.{item, ok, sight, Mask}
+use Rattle.columnar.specs.Plain.{value, span, OffsetsTo, Offsets}
 use Rattle.columnar.proofs.Items.{entry_end, item_lt}
 use Rattle.array_data.specs.Tables.{part}
-use Rattle.slot_reader.specs.leaf_row.Reading.{leaf_of, leaf_row_of}
+use Rattle.slot_reader.specs.leaf_row.Reading.{leaf_of}
 use Rattle.slot_reader.proofs.leaf_row.Laws.{leaf_row}
-use Rattle.slot_reader.specs.view.Place.{place_of, part_of, length_at, offset_at}
-use Rattle.slot_reader.specs.declared.view.Place.{Place}
-use Rattle.slot_reader.specs.declared.view.Place.TheVariants as seen
-use Rattle.slot_reader.proofs.view.Laws.{inline, in_data, shows, view}
-use Rattle.array_data.specs.entries.Entries.{holds, spot_in, sized, entry_in, valid_bit, valid_in}
-use Rattle.array_data.specs.declared.entries.Validity.{Validity}
-use Rattle.array_data.specs.declared.entries.Validity.TheVariants as validity
-use Rattle.array_data.proofs.entries.Laws.{cut, holds_in, holds_end, spot_yes, entry_yes, part_end}
+use Rattle.array_data.specs.entries.Entries.{holds, sized, entry_in, valid_bit, valid_in}
+use Rattle.array_data.proofs.entries.Laws.{cut, holds_in, entry_yes}
 use Rattle.slot_reader.specs.declared.RowRead.{RowRead}
 use Rattle.slot_reader.specs.declared.RowRead.TheVariants as row
-use Rattle.slot_reader.specs.Slots.{number_read, stretch_in, string_read, list_read, data_place, viewed, view_at, stored_number, entry_by}
+use Rattle.slot_reader.specs.Slots.{number_read, string_read, list_read, stored_number, entry_by}
 use Rattle.slot_reader.proofs.Laws.{stretch_in_lem, rows_in_lem}
 use Rattle.row_reader.specs.Walk.{is_refused}
 use Rattle.row_reader.specs.meaning.Meaning.{flat}

@@ -3,7 +3,7 @@ use mathlib.Core.Path.{◌≡◌, refl, ap, sym, subst, ◌∙◌}
 use mathlib.Core.Bool.{Bool, true, false, cond, ◌&&◌, false≢true, and-eq-true_iff}
 use mathlib.Core.Option.{Option, none, some}
 use mathlib.Core.List.{List, [], ◌∷◌}
-use Prim.Native.Nat.{ℕ, zero, suc, ◌+◌, ◌≤◌, ◌<◌}
+use Prim.Native.Nat.{ℕ, suc, ◌+◌, ◌≤◌, ◌<◌}
 use native.Mathlib.Omega.{arith}
 use lib.ListN.{length, take, drop}
 use lib.Dec.{leb, eqb}
@@ -14,13 +14,12 @@ use Rattle.schema.specs.formats.Code.{Rule, is, begins, look, table, last_code, 
 use Rattle.schema.specs.formats.Types.{number_of, number_or}
 use Rattle.schema.specs.union_ids.Ids.{ids_at}
 use Rattle.schema.proofs.union_ids.Same.{Fine, fine}
-use Rattle.schema.specs.Tree.{field, dictionary, below, end_of, child_at, whole, code_of, ids_of, leaf_shape, keys_shape, list_shape, union_shape, run_shape, shape, ceilings, typed}
+use Rattle.schema.specs.Tree.{field, dictionary, code_of, ids_of, leaf_shape, keys_shape, list_shape, union_shape, run_shape, shape, ceilings, typed}
 use Rattle.schema.proofs.Trees.{child_inside}
 use Rattle.schema.proofs.Known.{typed_whole, typed_shape, within_nodes}
 use Rattle.array_data.specs.NodeKinds.{NodeKind, fixed_node, string_node, view_node, list_view_node, list_node, sparse_node, dense_node, run_end_node, dictionary_node, kind_of, kind_at}
 use Rattle.array_data.proofs.type_tree.Lent.{first_child}
 use Rattle.array_data.proofs.type_tree.Shaped.{Shaped, of_plain_lem, of_view, of_list, of_lists_lem, of_sparse, of_dense, of_run_lem, of_dictionary, shaped, at_run, plain_kind}
-use Rattle.array_data.specs.node_words.Words.{word}
 use Rattle.slot_reader.specs.Slots.{code_word, known, kind_word}
 use Rattle.row_reader.proofs.meaning.Child.{words, word_code, word_dictionary}
 use Rattle.columnar.specs.Test.{same}

@@ -1,5 +1,5 @@
 -- Rows of columns of numbers are leaves, and the reader of a row finds them. Assumes nothing.
-use mathlib.Core.Path.{◌≡◌, refl, sym, ap, subst, ◌∙◌}
+use mathlib.Core.Path.{◌≡◌, refl, sym, ap, ◌∙◌}
 use mathlib.Core.Bool.{Bool, true, false, cond, false≢true}
 use mathlib.Core.List.{List}
 use Prim.Native.Nat.{ℕ, ◌+◌, ◌<◌, ◌^◌}
@@ -10,7 +10,7 @@ use Rattle.columnar.specs.Array.{Array, item, ok, read_with}
 use Rattle.columnar.specs.Plain.{value, plain_at}
 use Rattle.columnar.specs.RunEnd.{end_of, first_above, run_end_at}
 use Rattle.columnar.specs.Reading.{Column, read}
-use Rattle.array_data.specs.Tables.{Tables, part, length_of}
+use Rattle.array_data.specs.Tables.{Tables, length_of}
 use Rattle.array_data.specs.Typed.{Tree, column_of, tables_from}
 use Rattle.array_data.specs.type_tree.Lent.{tree_of, type_of}
 use Rattle.array_data.specs.node_words.Words.{planted}

@@ -11,14 +11,14 @@ use Rattle.row_reader.proofs.step_runs.Goals as goal
 pub overflow_sub-row : goal.overflow_sub-row
 overflow_sub-row c = omega (arith, c.offset_at.ensures, c.requires.i_bound_2)
 
-pub returns-in-Run : goal.returns-in-Run
-returns-in-Run c =
+pub returns : goal.returns
+returns c =
     let z = c.args in
     let y = column z.lengths.now z.places.now [] z.body.now z.first in
-    ran_run z.i _ _ _ _ c.in-Run.is (omega arith) ∙ ap (ran z.i) (c.run_of.ensures ∙ ap (λ (k : ℕ). run_of y z.i (code_width z.tree.now (suc z.i)) (z.slot - k)) c.offset_at.ensures)
+    ran_run z.i _ _ _ c.in-Ok.is (omega arith) ∙ ap (ran z.i) (c.run_of.ensures ∙ ap (λ (k : ℕ). run_of y z.i (code_width z.tree.now (suc z.i)) (z.slot - k)) c.offset_at.ensures)
 
-pub returns-in-Refused : goal.returns-in-Refused
-returns-in-Refused c =
+pub returns-in_default : goal.returns-in_default
+returns-in_default c =
     let z = c.args in
     let y = column z.lengths.now z.places.now [] z.body.now z.first in
-    ran_past z.i _ _ c.in-Refused.is ∙ ap (ran z.i) (c.run_of.ensures ∙ ap (λ (k : ℕ). run_of y z.i (code_width z.tree.now (suc z.i)) (z.slot - k)) c.offset_at.ensures)
+    ran_past z.i _ _ c.in_default.is ∙ ap (ran z.i) (c.run_of.ensures ∙ ap (λ (k : ℕ). run_of y z.i (code_width z.tree.now (suc z.i)) (z.slot - k)) c.offset_at.ensures)

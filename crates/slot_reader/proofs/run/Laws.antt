@@ -12,9 +12,8 @@ use Rattle.run_ends.specs.Lookup.{Rising, Covers, first_above, left_of, found_at
 use Rattle.run_ends.proofs.Laws.{bisect_first}
 use Rattle.run_ends.proofs.Left.{Left, found_left, found_some}
 use Rattle.run_ends.specs.declared.PhysicalRun.{PhysicalRun}
-use Rattle.std.specs.Prelude.{Option, Some, None}
+use Rattle.std.specs.Prelude.{Option, Some, None, Ok, Err}
 use Rattle.run_ends.specs.declared.RunRow.{RunRow}
-use Rattle.slot_reader.specs.declared.run.RowRun.TheVariants as answer
 use Rattle.slot_reader.specs.run.Rows.{is_width, ends_run, as_row, row_run_by, row_run, row_run_first}
 
 module _ (look : ℕ → ℕ → Option RunRow) (offset len row : ℕ) where
@@ -25,13 +24,13 @@ module _ (look : ℕ → ℕ → Option RunRow) (offset len row : ℕ) where
 pub rising : (s : List ℕ) (offset len w row : ℕ) → Rising w s 0 (length s / w) → row_run s offset len w row ≡ row_run_first s offset len w row
 rising s offset len w row h =
     ap (λ (k : ℕ). cond (ltb row len) (cond (ltb (offset + len) (2 ^ 64))
-    (as_row (cond (is_width w) (found_at w s 0 (length s / w) (offset + len) (offset + row) k) None)) (answer.Refused 12)) (answer.Refused 2))
+    (as_row (cond (is_width w) (found_at w s 0 (length s / w) (offset + len) (offset + row) k) None)) (Err 12)) (Err 2))
     (bisect_first w s 0 (length s / w) (offset + row) h)
 
 -- .. and the rows that it counts are exactly those of the column that still fall in the run
 pub row_left : (s : List ℕ) (offset len w row : ℕ) → is_width w ≡ true → Rising w s 0 (length s / w) → Covers (entry w s 0) (length s / w) (offset + len) → offset + len < 2 ^ 64 → row < len
     → (row_run s offset len w row
-    ≡ answer.Run (record { 0 = first_above w s 0 (length s / w) (offset + row) }) (left_of (entry w s 0 (first_above w s 0 (length s / w) (offset + row))) (offset + len) (offset + row)))
+    ≡ Ok (record { run = record { 0 = first_above w s 0 (length s / w) (offset + row) }; left = left_of (entry w s 0 (first_above w s 0 (length s / w) (offset + row))) (offset + len) (offset + row) }))
     × Left (entry w s 0) (length s / w) (offset + len) (offset + row) (first_above w s 0 (length s / w) (offset + row))
     (left_of (entry w s 0 (first_above w s 0 (length s / w) (offset + row))) (offset + len) (offset + row))
 row_left s offset len w row wide r v g h =
@@ -41,11 +40,11 @@ row_left s offset len w row wide r v g h =
 -- ---- what an answer holds, whatever the run ends are
 
 -- the rows that an answer counts: at least the row itself, and none past the column's last
-pub counted : (s : List ℕ) (offset len w row : ℕ) (k : PhysicalRun) (left : ℕ) → row_run s offset len w row ≡ answer.Run k left → (0 < left) × (row + left ≤ len)
+pub counted : (s : List ℕ) (offset len w row : ℕ) (k : PhysicalRun) (left : ℕ) → row_run s offset len w row ≡ Ok (record { run = k; left = left }) → (0 < left) × (row + left ≤ len)
 counted s offset len w row k left h = go (ltb row len) refl (ltb (offset + len) (2 ^ 64)) (is_width w) (found_run w s 0 (length s / w) (offset + len) (offset + row)) refl h
   where
     go : (a : Bool) → ltb row len ≡ a → (b t : Bool) → (f : Option RunRow) → f ≡ found_run w s 0 (length s / w) (offset + len) (offset + row)
-        → cond a (cond b (as_row (cond t f None)) (answer.Refused 12)) (answer.Refused 2) ≡ answer.Run k left
+        → cond a (cond b (as_row (cond t f None)) (Err 12)) (Err 2) ≡ Ok (record { run = k; left = left })
         → (0 < left) × (row + left ≤ len)
     go true p true true (Some r) q g =
         let i : row < len = ltb-true _ _ p in

@@ -16,19 +16,19 @@ pub stretch_at-requires : goal.stretch_at-requires
 stretch_at-requires c = c.requires.1.ends_held ((let fact : c.args.n.runs ≡ true = flip _ _ c.if-not-n.false in fact))
 
 pub overflow_add-n : goal.overflow_add-n
-overflow_add-n c = record { fits = ((let fact : Found c.args.body.now c.args.n c.args.row c.in-Run.run' c.in-Run.left = c.requires.1.found ((let fact : c.args.n.runs ≡ true = flip _ _ c.if-not-n.false in fact)) _ _ (sym c.stretch_at.ensures ∙ c.in-Run.is) in fact)).low.1 }
+overflow_add-n c = record { fits = ((let fact : Found c.args.body.now c.args.n c.args.row c.in-Ok.found.run c.in-Ok.found.left = c.requires.1.found ((let fact : c.args.n.runs ≡ true = flip _ _ c.if-not-n.false in fact)) _ _ (sym c.stretch_at.ensures ∙ c.in-Ok.is) in fact)).low.1 }
 
 pub cell_at-requires : goal.cell_at-requires
-cell_at-requires c = ((let fact : Found c.args.body.now c.args.n c.args.row c.in-Run.run' c.in-Run.left = c.requires.1.found ((let fact : c.args.n.runs ≡ true = flip _ _ c.if-not-n.false in fact)) _ _ (sym c.stretch_at.ensures ∙ c.in-Run.is) in fact)).held
+cell_at-requires c = ((let fact : Found c.args.body.now c.args.n c.args.row c.in-Ok.found.run c.in-Ok.found.left = c.requires.1.found ((let fact : c.args.n.runs ≡ true = flip _ _ c.if-not-n.false in fact)) _ _ (sym c.stretch_at.ensures ∙ c.in-Ok.is) in fact)).held
 
-pub overflow_add-result-in-Run : goal.overflow_add-result-in-Run
-overflow_add-result-in-Run c = record { fits = omega (arith, ((let fact : Found c.args.body.now c.args.n c.args.row c.in-Run.run' c.in-Run.left = c.requires.1.found ((let fact : c.args.n.runs ≡ true = flip _ _ c.if-not-n.false in fact)) _ _ (sym c.stretch_at.ensures ∙ c.in-Run.is) in fact)).low.0) }
+pub overflow_add-result-in-Ok : goal.overflow_add-result-in-Ok
+overflow_add-result-in-Ok c = record { fits = omega (arith, ((let fact : Found c.args.body.now c.args.n c.args.row c.in-Ok.found.run c.in-Ok.found.left = c.requires.1.found ((let fact : c.args.n.runs ≡ true = flip _ _ c.if-not-n.false in fact)) _ _ (sym c.stretch_at.ensures ∙ c.in-Ok.is) in fact)).low.0) }
 
-pub returns-in-Run : goal.returns-in-Run
-returns-in-Run c =
-    let f = (let fact : Found c.args.body.now c.args.n c.args.row c.in-Run.run' c.in-Run.left = c.requires.1.found ((let fact : c.args.n.runs ≡ true = flip _ _ c.if-not-n.false in fact)) _ _ (sym c.stretch_at.ensures ∙ c.in-Run.is) in fact) in
-    (omega (arith, f.some_left), run_flat _ _ _ _ _ f.same c.cell_at.ensures.value (bounded_by _ c.cell_at.ensures.count_bound), (let fact : c.args.row + c.in-Run.left ≡ until_of c.args.body.now c.args.n c.args.row = until_run _ c.args.n c.args.row _ _ ((let fact : c.args.n.runs ≡ true = flip _ _ c.if-not-n.false in fact)) (sym c.stretch_at.ensures ∙ c.in-Run.is) in fact))
+pub returns-in-Ok : goal.returns-in-Ok
+returns-in-Ok c =
+    let f = (let fact : Found c.args.body.now c.args.n c.args.row c.in-Ok.found.run c.in-Ok.found.left = c.requires.1.found ((let fact : c.args.n.runs ≡ true = flip _ _ c.if-not-n.false in fact)) _ _ (sym c.stretch_at.ensures ∙ c.in-Ok.is) in fact) in
+    (omega (arith, f.some_left), run_flat _ _ _ _ _ f.same c.cell_at.ensures.value (bounded_by _ c.cell_at.ensures.count_bound), (let fact : c.args.row + c.in-Ok.found.left ≡ until_of c.args.body.now c.args.n c.args.row = until_run _ c.args.n c.args.row _ _ ((let fact : c.args.n.runs ≡ true = flip _ _ c.if-not-n.false in fact)) (sym c.stretch_at.ensures ∙ c.in-Ok.is) in fact))
 
-pub returns-in-Refused : goal.returns-in-Refused
-returns-in-Refused c =
-    absurd (c.requires.1.some_run ((let fact : c.args.n.runs ≡ true = flip _ _ c.if-not-n.false in fact)) _ (sym c.stretch_at.ensures ∙ c.in-Refused.is))
+pub returns-in-Err : goal.returns-in-Err
+returns-in-Err c =
+    absurd (c.requires.1.some_run ((let fact : c.args.n.runs ≡ true = flip _ _ c.if-not-n.false in fact)) _ (sym c.stretch_at.ensures ∙ c.in-Err.is))

@@ -1,5 +1,4 @@
 -- `cell_sums::masked` meets its contract. Assumes nothing.
-use Rattle.std.proofs.Common.{◌-◌, true, false}
 use Rattle.aggregates.proofs.cell_sums.Laws.{no_bounded, mask_none, mask_some}
 use Rattle.aggregates.proofs.cell_sums.masked.Goals as goal
 

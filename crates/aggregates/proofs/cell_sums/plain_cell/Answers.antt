@@ -1,5 +1,5 @@
 -- `cell_sums::plain_cell` meets its contract. Assumes nothing.
-use Rattle.std.proofs.Common.{◌-◌, ◌∙◌}
+use Rattle.std.proofs.Common.{◌∙◌}
 use Rattle.aggregates.proofs.cell_sums.Laws.{bounded_by, plain_in}
 use Rattle.aggregates.proofs.cell_sums.plain_cell.Goals as goal
 

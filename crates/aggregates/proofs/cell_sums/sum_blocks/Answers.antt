@@ -1,5 +1,5 @@
 -- `cell_sums::sum_blocks` meets its contract. Assumes nothing.
-use Rattle.std.proofs.Common.{◌+◌, ◌-◌, ◌<◌, ◌≤◌}
+use Rattle.std.proofs.Common.{◌+◌, ◌<◌, ◌≤◌}
 use Rattle.aggregates.specs.patterns.Parts.{block_rows}
 use Rattle.aggregates.proofs.cell_sums.Laws.{before_any, at_end, nearer, same_start, in_order_lem, further}
 use Rattle.aggregates.proofs.cell_sums.Plain.{join_room, join_on, part_ready, block_stop, block_fits, rows_low}

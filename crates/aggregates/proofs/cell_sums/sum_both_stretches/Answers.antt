@@ -1,5 +1,5 @@
 -- `cell_sums::sum_both_stretches` meets its contract; the loop turns at most once for each stretch of either column. Assumes nothing.
-use Rattle.std.proofs.Common.{◌-◌, ◌<◌, sym, le_of_eq}
+use Rattle.std.proofs.Common.{◌<◌, sym, le_of_eq}
 use Rattle.aggregates.specs.cell_sums.Steps.{until_of}
 use Rattle.aggregates.proofs.cell_sums.Steps.{fewer_of_both}
 use Rattle.aggregates.proofs.cell_sums.Laws.{turn, room, room_of, before_any, at_end, row_low, same_start, stop_low, in_order_lem, further, none_flat, later_flat, both_flat, least_above, least_first, least_second, least_end}

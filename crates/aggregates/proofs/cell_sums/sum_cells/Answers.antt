@@ -1,7 +1,7 @@
 -- `cell_sums::sum_cells` meets its contract. Assumes nothing.
-use Rattle.std.proofs.Common.{ℕ, ◌+◌, ◌-◌, ◌<◌, sym, arith}
+use Rattle.std.proofs.Common.{sym, arith}
 use Rattle.aggregates.specs.cell_sums.Numbers.{cell_in}
-use Rattle.aggregates.proofs.cell_sums.Laws.{turn_one, mask_same, room, room_of, before_any, at_end, fits_next, next_low, next_in, next_from, nearer, same_start}
+use Rattle.aggregates.proofs.cell_sums.Laws.{turn_one, mask_same, room, room_of, before_any, at_end, next_low}
 use Rattle.aggregates.proofs.cell_sums.sum_cells.Goals as goal
 
 pub loop-row-init : goal.loop-row-init

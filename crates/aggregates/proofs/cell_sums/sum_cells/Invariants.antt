@@ -1,4 +1,4 @@
-use Rattle.std.proofs.Common.{◌-◌, ◌≤◌}
+use Rattle.std.proofs.Common.{◌-◌}
 use Rattle.aggregates.specs.tally.Cells.{Tallied}
 use Rattle.aggregates.specs.cell_sums.Numbers.{cell_in, both_cells}
 use Rattle.aggregates.proofs.cell_sums.sum_cells.Given as goal

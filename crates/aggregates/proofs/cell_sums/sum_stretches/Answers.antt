@@ -1,5 +1,5 @@
 -- `cell_sums::sum_stretches` meets its contract; the loop turns at most once for each stretch. Assumes nothing.
-use Rattle.std.proofs.Common.{◌-◌, ◌<◌}
+use Rattle.std.proofs.Common.{◌<◌}
 use Rattle.aggregates.specs.cell_sums.Steps.{until_of}
 use Rattle.aggregates.proofs.cell_sums.Steps.{fewer}
 use Rattle.aggregates.proofs.cell_sums.Laws.{turn, room, room_of, before_any, at_end, row_low, same_start, stop_above, stop_until, stop_end, stop_low, in_order_lem, further, flat_to}

@@ -1,7 +1,6 @@
 -- `cell_sums::sum_words` meets its contract. Assumes nothing.
-use Rattle.std.proofs.Common.{ℕ, ◌+◌, ◌-◌, ◌*◌, ◌<◌, arith}
+use Rattle.std.proofs.Common.{◌+◌, ◌*◌, arith}
 use Rattle.aggregates.proofs.tally.Sums.{none_yet}
-use Rattle.aggregates.proofs.cell_sums.Laws.{next_in, nearer}
 use Rattle.aggregates.proofs.cell_sums.Plain.{join_room, join_word, part_ready, word_stop, word_low, first_in, all_words}
 use Rattle.aggregates.proofs.cell_sums.sum_words.Goals as goal
 

@@ -1,5 +1,5 @@
 -- `pattern_sums::add_all` meets its contract. Assumes nothing.
-use Rattle.std.proofs.Common.{◌≡◌, ◌+◌, ◌-◌, ◌*◌, ◌/◌, ◌%◌, ◌^◌, ◌≤◌, ap, ◌∙◌, arith}
+use Rattle.std.proofs.Common.{◌≡◌, ◌+◌, ◌*◌, ◌/◌, ◌%◌, ◌^◌, ap, ◌∙◌, arith}
 use Rattle.aggregates.specs.patterns.Parts.{top_bit, up_to}
 use Rattle.aggregates.proofs.patterns.Laws.{up_none, up_more, up_ones, one_top, read_lt, within, low_room, high_room, one_room, low_most, high_most, one_most}
 use Rattle.aggregates.proofs.patterns.add_all.Goals as goal

@@ -1,5 +1,5 @@
 -- `pattern_sums::add_some` meets its contract. Assumes nothing.
-use Rattle.std.proofs.Common.{◌≡◌, ◌+◌, ◌-◌, ◌*◌, ◌/◌, ◌%◌, ◌^◌, ◌≤◌, ap, ◌∙◌, ap₂, lt_of_le_of_lt, arith}
+use Rattle.std.proofs.Common.{◌≡◌, ◌+◌, ◌*◌, ◌/◌, ◌%◌, ◌^◌, ap, ◌∙◌, ap₂, lt_of_le_of_lt, arith}
 use Rattle.aggregates.specs.patterns.Parts.{top_bit, up_to}
 use Rattle.aggregates.proofs.patterns.Laws.{up_none, up_more, one_top, read_lt, within, times_bit, low_room, high_room, one_room, low_most, high_most, one_most, first_bits, next_bits}
 use Rattle.aggregates.proofs.patterns.add_some.Goals as goal

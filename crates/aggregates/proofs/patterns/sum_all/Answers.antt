@@ -1,6 +1,6 @@
 -- `pattern_sums::sum_all` meets its contract. Assumes nothing.
 use Rattle.std.proofs.Common.{◌≡◌, ◌+◌, ◌*◌, ◌≤◌, length, sym, subst}
-use Rattle.aggregates.specs.patterns.Parts.{block_rows, Sized, pattern_in, Added}
+use Rattle.aggregates.specs.patterns.Parts.{pattern_in, Added}
 use Rattle.aggregates.proofs.patterns.sum_all.Goals as goal
 
 pub add_all-requires : goal.add_all-requires

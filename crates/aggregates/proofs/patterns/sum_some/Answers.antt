@@ -1,6 +1,6 @@
 -- `pattern_sums::sum_some` meets its contract. Assumes nothing.
-use Rattle.std.proofs.Common.{◌≡◌, ◌+◌, ◌*◌, ◌≤◌, length, sym, subst}
-use Rattle.aggregates.specs.patterns.Parts.{Sized, bit_of, kept_in, Added}
+use Rattle.std.proofs.Common.{◌≡◌, sym, subst}
+use Rattle.aggregates.specs.patterns.Parts.{bit_of, kept_in, Added}
 use Rattle.aggregates.proofs.patterns.sum_some.Goals as goal
 
 pub returns-in-1 : goal.returns-in-1

@@ -1,5 +1,5 @@
 -- `patterns::top_bit` meets its contract. Assumes nothing.
-use Rattle.std.proofs.Common.{◌≡◌, ◌*◌, ◌-◌, ◌/◌, ◌^◌, ap, ◌∙◌, arith}
+use Rattle.std.proofs.Common.{◌*◌, ◌-◌, ◌/◌, ◌^◌, ap}
 use Rattle.aggregates.proofs.patterns.top_bit.Goals as goal
 
 pub returns : goal.returns

@@ -18,8 +18,8 @@ asked_as body row h = rw h refl
 pub stretch_at-requires : goal.stretch_at-requires
 stretch_at-requires c = held_as (length c.args.body.now) c.find_ends-e.ensures c.requires.fact_2
 
-pub returns-in-Run : goal.returns-in-Run
-returns-in-Run c = ap run_or (sym c.in-Run.is ∙ c.stretch_at.ensures ∙ asked_as c.args.body.now c.args.row c.find_ends-e.ensures)
+pub returns-in-Ok : goal.returns-in-Ok
+returns-in-Ok c = ap run_or (sym c.in-Ok.is ∙ c.stretch_at.ensures ∙ asked_as c.args.body.now c.args.row c.find_ends-e.ensures)
 
-pub returns-in-Refused : goal.returns-in-Refused
-returns-in-Refused c = ap run_or (sym c.in-Refused.is ∙ c.stretch_at.ensures ∙ asked_as c.args.body.now c.args.row c.find_ends-e.ensures)
+pub returns-in-Err : goal.returns-in-Err
+returns-in-Err c = ap run_or (sym c.in-Err.is ∙ c.stretch_at.ensures ∙ asked_as c.args.body.now c.args.row c.find_ends-e.ensures)

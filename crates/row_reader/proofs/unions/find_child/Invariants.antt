@@ -1,5 +1,5 @@
 use mathlib.Core.Path.{◌≡◌}
-use Prim.Native.Nat.{suc, ◌-◌, ◌≤◌}
+use Prim.Native.Nat.{suc, ◌-◌}
 use Rattle.row_reader.specs.Walk.{end_word, child_from}
 use Rattle.row_reader.proofs.unions.find_child.Given as goal
 
