@@ -8,7 +8,6 @@ ghost use Rattle.anew.specs.runs.Runs.{alike};
 ghost use Rattle.coding.specs.run_coding.Rows.{number_in, valid_in, cell_of, as_bit};
 ghost use Rattle.bits.specs.Bits.{put_bits};
 
-use aggregates::patterns;
 use number::Unsigned;
 
 // Where rows stand in a body: the first from `start` on, and its validity bit, where there is one, the bit `bit` of the byte `mask`.
@@ -27,12 +26,12 @@ pub struct Spots {
     pub mask: usize,
 }
 
-// The number of row r of those of w bytes.
-pub fn number_at(body: &[u8], w: u8, s: Slots, r: usize) -> u64
-    requires { Sized w × (s.start + r * w + w ≤ length body.now) }
-    ensures { result ≡ number_in (was body) w s.start r }
+// The number of row r of N's rows.
+pub fn number_at<N: Unsigned>(body: &[u8], s: Slots, r: usize) -> u64
+    requires { s.start + r * N.SIZE + N.SIZE ≤ length body.now }
+    ensures { result ≡ number_in (was body) N.SIZE s.start r }
 {
-    patterns::read_pattern(body, s.start + r * (w as usize), w)
+    N::read(body, s.start + r * N::SIZE).to_u64()
 }
 
 // Whether row r is valid.
@@ -61,16 +60,24 @@ pub fn is_change(a: bool, b: bool, x: u64, y: u64) -> bool
     (a != b) | (a & (x != y))
 }
 
+// The lowest bytes of v at `at`, as many as N has.
+pub fn write_number<N: Unsigned>(room: &mut [u8], at: usize, v: u64)
+    requires { at + N.SIZE ≤ length room.old }
+    ensures { room.new ≡ splice at (encode N.SIZE v) room.old }
+{
+    N::truncate(v).write(room, at)
+}
+
 // The w lowest bytes of v at `at`.
 pub fn write_entry(room: &mut [u8], at: usize, w: u8, v: u64)
     requires { Sized w × (at + w ≤ length room.old) }
     ensures { room.new ≡ splice at (encode w v) room.old }
 {
     match w {
-        1 => u8::truncate(v).write(room, at),
-        2 => u16::truncate(v).write(room, at),
-        4 => u32::truncate(v).write(room, at),
-        _ => v.write(room, at),
+        1 => write_number::<u8>(room, at, v),
+        2 => write_number::<u16>(room, at, v),
+        4 => write_number::<u32>(room, at, v),
+        _ => write_number::<u64>(room, at, v),
     }
 }
 

@@ -32,46 +32,46 @@ module _ (body : List ℕ) (w : ℕ) (masked : Bool) (start mask bit : ℕ) wher
   valid_next r e = e ∙ ap (valid_in body masked mask bit) (let z : r ≡ r + 1 - 1 = omega arith in z)
 
 pub is_valid-a-requires : goal.is_valid-a-requires
-is_valid-a-requires c = let z = c.args in bit_held z.body.now z.w z.masked z.s.start z.s.mask z.s.bit z.m c.requires.1 0 c.requires.0
+is_valid-a-requires g c = let z = c.args in bit_held z.body.now g.N.Unsigned.SIZE z.masked z.s.start z.s.mask z.s.bit z.m c.requires.1 0 c.requires.0
 
 pub loop-r-init : goal.loop-r-init
-loop-r-init c = (omega arith, c.is_valid-a.ensures, refl)
+loop-r-init g c = (omega arith, c.is_valid-a.ensures, refl)
 
 pub is_valid-b-requires : goal.is_valid-b-requires
-is_valid-b-requires c =
+is_valid-b-requires g c =
     let z = c.args in
-    bit_held z.body.now z.w z.masked z.s.start z.s.mask z.s.bit z.m c.requires.1 c.loop-r.r c.loop-r-test.true
+    bit_held z.body.now g.N.Unsigned.SIZE z.masked z.s.start z.s.mask z.s.bit z.m c.requires.1 c.loop-r.r c.loop-r-test.true
 
 pub overflow_sub-r : goal.overflow_sub-r
-overflow_sub-r c = omega arith
+overflow_sub-r g c = omega arith
 
 pub number_at-x-requires : goal.number_at-x-requires
-number_at-x-requires c =
+number_at-x-requires g c =
     let z = c.args in
-    (c.requires.1.sized, row_held z.body.now z.w z.masked z.s.start z.s.mask z.s.bit z.m c.requires.1 (c.loop-r.r - 1) (omega (arith, c.loop-r-test.true)))
+    row_held z.body.now g.N.Unsigned.SIZE z.masked z.s.start z.s.mask z.s.bit z.m c.requires.1 (c.loop-r.r - 1) (omega (arith, c.loop-r-test.true))
 
 pub number_at-y-requires : goal.number_at-y-requires
-number_at-y-requires c =
+number_at-y-requires g c =
     let z = c.args in
-    (c.requires.1.sized, row_held z.body.now z.w z.masked z.s.start z.s.mask z.s.bit z.m c.requires.1 c.loop-r.r c.loop-r-test.true)
+    row_held z.body.now g.N.Unsigned.SIZE z.masked z.s.start z.s.mask z.s.bit z.m c.requires.1 c.loop-r.r c.loop-r-test.true
 
 pub overflow_add-k : goal.overflow_add-k
-overflow_add-k c = omega (arith, c.loop-r.invariant.0)
+overflow_add-k g c = omega (arith, c.loop-r.invariant.0)
 
 pub loop-r-preserved : goal.loop-r-preserved
-loop-r-preserved c =
+loop-r-preserved g c =
     let l = c.loop-r in
     let z = c.args in
-    let f = further z.body.now z.w z.masked z.s.start z.s.mask z.s.bit l.r l.k (omega arith) l.invariant.1 c.is_valid-b.ensures c.number_at-x.ensures c.number_at-y.ensures c.is_change.ensures l.invariant.2 in
-    let v = valid_next z.body.now z.w z.masked z.s.start z.s.mask z.s.bit l.r c.is_valid-b.ensures in
+    let f = further z.body.now g.N.Unsigned.SIZE z.masked z.s.start z.s.mask z.s.bit l.r l.k (omega arith) l.invariant.1 c.is_valid-b.ensures c.number_at-x.ensures c.number_at-y.ensures c.is_change.ensures l.invariant.2 in
+    let v = valid_next z.body.now g.N.Unsigned.SIZE z.masked z.s.start z.s.mask z.s.bit l.r c.is_valid-b.ensures in
     ⊎_elim
     (λ q. (omega (arith, q.k-is, l.invariant.0), v, q.k-is ∙ f.0 q.if-is_change.true))
     (λ q. (omega (arith, q.k-is, l.invariant.0), v, q.k-is ∙ f.1 q.if-is_change.false))
     c.if-is_change.branch-raw
 
 pub returns : goal.returns
-returns c =
+returns g c =
     let l = c.loop-r in
     let z = c.args in
     let e : l.r ≡ z.m = omega (arith, c.requires.0) in
-    l.invariant.2 ∙ ap (λ n. count z.body.now z.w z.masked z.s.start z.s.mask z.s.bit (n - 1)) e
+    l.invariant.2 ∙ ap (λ n. count z.body.now g.N.Unsigned.SIZE z.masked z.s.start z.s.mask z.s.bit (n - 1)) e

@@ -66,72 +66,72 @@ module _ (body : List ℕ) (w : ℕ) (masked : Bool) (start mask bit : ℕ) wher
     ended k r m em ek ea ex er h = wrote k r ek ea ex er h ∙ ap written (sym (last_rows_lem body w masked start mask bit r)) ∙ ap (λ n. written (last_rows body w masked start mask bit n)) (sym (add-one r) ∙ em)
 
 pub is_valid-a-requires : goal.is_valid-a-requires
-is_valid-a-requires c = let z = c.args in bit_held z.body.now z.w z.masked z.s.start z.s.mask z.s.bit z.m c.requires.le_m.3 0 c.requires.le_m.0
+is_valid-a-requires g c = let z = c.args in bit_held z.body.now g.N.Unsigned.SIZE z.masked z.s.start z.s.mask z.s.bit z.m c.requires.le_m.3 0 c.requires.le_m.0
 
 pub number_at-x-requires : goal.number_at-x-requires
-number_at-x-requires c =
+number_at-x-requires g c =
     let z = c.args in
-    (c.requires.le_m.3.sized, row_held z.body.now z.w z.masked z.s.start z.s.mask z.s.bit z.m c.requires.le_m.3 0 c.requires.le_m.0)
+    row_held z.body.now g.N.Unsigned.SIZE z.masked z.s.start z.s.mask z.s.bit z.m c.requires.le_m.3 0 c.requires.le_m.0
 
 pub loop-r-init : goal.loop-r-init
-loop-r-init c =
+loop-r-init g c =
     let z = c.args in
-    (omega arith, c.is_valid-a.ensures, c.number_at-x.ensures, refl, sym (runs_none z.body.now z.w z.masked z.s.start z.s.mask z.s.bit z.e z.t.ends z.t.values z.t.mask z.room.now))
+    (omega arith, c.is_valid-a.ensures, c.number_at-x.ensures, refl, sym (runs_none z.body.now g.N.Unsigned.SIZE z.masked z.s.start z.s.mask z.s.bit z.e z.t.ends z.t.values z.t.mask z.room.now))
 
 pub is_valid-b-requires : goal.is_valid-b-requires
-is_valid-b-requires c =
+is_valid-b-requires g c =
     let z = c.args in
-    bit_held z.body.now z.w z.masked z.s.start z.s.mask z.s.bit z.m c.requires.le_m.3 (c.loop-r.r + 1) (omega arith)
+    bit_held z.body.now g.N.Unsigned.SIZE z.masked z.s.start z.s.mask z.s.bit z.m c.requires.le_m.3 (c.loop-r.r + 1) (omega arith)
 
 pub number_at-y-requires : goal.number_at-y-requires
-number_at-y-requires c =
+number_at-y-requires g c =
     let z = c.args in
-    (c.requires.le_m.3.sized, row_held z.body.now z.w z.masked z.s.start z.s.mask z.s.bit z.m c.requires.le_m.3 (c.loop-r.r + 1) (omega arith))
+    row_held z.body.now g.N.Unsigned.SIZE z.masked z.s.start z.s.mask z.s.bit z.m c.requires.le_m.3 (c.loop-r.r + 1) (omega arith)
 
 pub write_run-requires : goal.write_run-requires
-write_run-requires c =
+write_run-requires g c =
     let z = c.args in
     let l = c.loop-r in
-    let f = one_fits z.body.now z.w z.masked z.s.start z.s.mask z.s.bit z.e z.t.ends z.t.values z.t.mask (length z.room.now) z.m l.k l.r (omega arith) l.invariant.3 c.requires.fits in
-    (c.requires.le_m.3.sized, c.requires.le_m.2, rw c.loop-r.auto.room f, omega arith)
+    let f = one_fits z.body.now g.N.Unsigned.SIZE z.masked z.s.start z.s.mask z.s.bit z.e z.t.ends z.t.values z.t.mask (length z.room.now) z.m l.k l.r (omega arith) l.invariant.3 c.requires.fits in
+    (c.requires.le_m.2, rw c.loop-r.auto.room f, omega arith)
 
 pub overflow_add-k : goal.overflow_add-k
-overflow_add-k c = omega arith
+overflow_add-k g c = omega arith
 
 pub loop-r-preserved : goal.loop-r-preserved
-loop-r-preserved c =
+loop-r-preserved g c =
     let z = c.args in
     let l = c.loop-r in
-    let d = change_is z.body.now z.w z.masked z.s.start z.s.mask z.s.bit l.r l.invariant.1 (c.is_valid-b.ensures ∙ ap (valid_in z.body.now z.masked z.s.mask z.s.bit) (add-one l.r)) l.invariant.2 (c.number_at-y.ensures ∙ ap (number_in z.body.now z.w z.s.start) (add-one l.r)) c.is_change.ensures in
+    let d = change_is z.body.now g.N.Unsigned.SIZE z.masked z.s.start z.s.mask z.s.bit l.r l.invariant.1 (c.is_valid-b.ensures ∙ ap (valid_in z.body.now z.masked z.s.mask z.s.bit) (add-one l.r)) l.invariant.2 (c.number_at-y.ensures ∙ ap (number_in z.body.now g.N.Unsigned.SIZE z.s.start) (add-one l.r)) c.is_change.ensures in
     ⊎_elim
     (λ q.
-    let f = step_yes z.body.now z.w z.masked z.s.start z.s.mask z.s.bit z.e z.t.ends z.t.values z.t.mask z.room.now l.k l.r (d ∙ q.if-is_change.true) l.invariant.3 l.invariant.1 l.invariant.2 l.invariant.4 q.write_run.ensures in
+    let f = step_yes z.body.now g.N.Unsigned.SIZE z.masked z.s.start z.s.mask z.s.bit z.e z.t.ends z.t.values z.t.mask z.room.now l.k l.r (d ∙ q.if-is_change.true) l.invariant.3 l.invariant.1 l.invariant.2 l.invariant.4 q.write_run.ensures in
     (omega (arith, q.k-is, l.invariant.0), c.is_valid-b.ensures, c.number_at-y.ensures, q.k-is ∙ f.0, q.room-is ∙ f.1))
     (λ q.
-    let f = step_no z.body.now z.w z.masked z.s.start z.s.mask z.s.bit z.e z.t.ends z.t.values z.t.mask z.room.now l.k l.r (d ∙ q.if-is_change.false) l.invariant.3 l.invariant.4 in
+    let f = step_no z.body.now g.N.Unsigned.SIZE z.masked z.s.start z.s.mask z.s.bit z.e z.t.ends z.t.values z.t.mask z.room.now l.k l.r (d ∙ q.if-is_change.false) l.invariant.3 l.invariant.4 in
     (omega (arith, q.k-is, l.invariant.0), c.is_valid-b.ensures, c.number_at-y.ensures, q.k-is ∙ f.0, q.room-is ∙ f.1))
     c.if-is_change.branch-raw
 
 pub write_run-requires-2 : goal.write_run-requires-2
-write_run-requires-2 c =
+write_run-requires-2 g c =
     let z = c.args in
     let l = c.loop-r in
-    let f = one_fits z.body.now z.w z.masked z.s.start z.s.mask z.s.bit z.e z.t.ends z.t.values z.t.mask (length z.room.now) z.m l.k l.r (omega arith) l.invariant.3 c.requires.fits in
-    (c.requires.le_m.3.sized, c.requires.le_m.2, rw c.loop-r.auto.room f, omega arith)
+    let f = one_fits z.body.now g.N.Unsigned.SIZE z.masked z.s.start z.s.mask z.s.bit z.e z.t.ends z.t.values z.t.mask (length z.room.now) z.m l.k l.r (omega arith) l.invariant.3 c.requires.fits in
+    (c.requires.le_m.2, rw c.loop-r.auto.room f, omega arith)
 
 pub overflow_add-result : goal.overflow_add-result
-overflow_add-result c = let l = c.loop-r in omega arith
+overflow_add-result g c = let l = c.loop-r in omega arith
 
 pub shape_of-room : goal.shape_of-room
-shape_of-room c = omega arith
+shape_of-room g c = omega arith
 
 pub returns : goal.returns
-returns c =
+returns g c =
     let z = c.args in
     let l = c.loop-r in
     let e : z.m - 1 ≡ l.r = omega arith in
     let q : l.r + 1 ≡ z.m = omega arith in
-    let h = subst (λ r. c.write_run-2.new.room ≡ run_written z.w z.masked z.e z.t.ends z.t.values z.t.mask l.k r l.a l.x l.room) e c.write_run-2.ensures in record {
-      room_value = ended z.body.now z.w z.masked z.s.start z.s.mask z.s.bit z.e z.t.ends z.t.values z.t.mask z.room.now l.k l.r z.m q l.invariant.3 l.invariant.1 l.invariant.2 l.invariant.4 h;
-      value = all_counted z.body.now z.w z.masked z.s.start z.s.mask z.s.bit l.k l.r z.m q l.invariant.3;
+    let h = subst (λ r. c.write_run-2.new.room ≡ run_written g.N.Unsigned.SIZE z.masked z.e z.t.ends z.t.values z.t.mask l.k r l.a l.x l.room) e c.write_run-2.ensures in record {
+      room_value = ended z.body.now g.N.Unsigned.SIZE z.masked z.s.start z.s.mask z.s.bit z.e z.t.ends z.t.values z.t.mask z.room.now l.k l.r z.m q l.invariant.3 l.invariant.1 l.invariant.2 l.invariant.4 h;
+      value = all_counted z.body.now g.N.Unsigned.SIZE z.masked z.s.start z.s.mask z.s.bit l.k l.r z.m q l.invariant.3;
     }

@@ -31,35 +31,35 @@ module _ (w : ℕ) (masked : Bool) (e ends values mask k r : ℕ) (valid : Bool)
   wrote_two a b c d = c ∙ rw (d, b, a, add-one r)
 
 pub overflow_mul-k : goal.overflow_mul-k
-overflow_mul-k c = let z = end_in_lem c.args.k c.requires.2 in omega (arith, z)
+overflow_mul-k g c = let z = end_in_lem c.args.k c.requires.1 in omega (arith, z)
 
 pub overflow_add-t : goal.overflow_add-t
-overflow_add-t c = let z = end_in_lem c.args.k c.requires.2 in omega (arith, z)
+overflow_add-t g c = let z = end_in_lem c.args.k c.requires.1 in omega (arith, z)
 
 pub overflow_add-r : goal.overflow_add-r
-overflow_add-r c = omega (arith, c.requires.3)
+overflow_add-r g c = omega (arith, c.requires.2)
 
 pub write_entry-requires : goal.write_entry-requires
-write_entry-requires c = (c.requires.1, end_in_lem c.args.k c.requires.2)
+write_entry-requires g c = (c.requires.0, end_in_lem c.args.k c.requires.1)
 
 pub overflow_mul-k-2 : goal.overflow_mul-k-2
-overflow_mul-k-2 c = let z = value_in c.args.k c.requires.2 in omega (arith, z)
+overflow_mul-k-2 g c = let z = value_in c.args.k c.requires.1 in rw c.SIZE.ensures (omega (arith, z))
 
 pub overflow_add-t-2 : goal.overflow_add-t-2
-overflow_add-t-2 c = let z = value_in c.args.k c.requires.2 in omega (arith, z)
+overflow_add-t-2 g c = let z = value_in c.args.k c.requires.1 in rw c.SIZE.ensures (omega (arith, z))
 
-pub write_entry-requires-2 : goal.write_entry-requires-2
-write_entry-requires-2 c = let z = value_in c.args.k c.requires.2 in (c.requires.0, omega (arith, z))
+pub write_number-requires : goal.write_number-requires
+write_number-requires g c = let z = value_in c.args.k c.requires.1 in rw c.SIZE.ensures (omega (arith, z))
 
 pub write_bits-requires : goal.write_bits-requires
-write_bits-requires c = let z = c.requires.2.of_bits c.if-masked.true in omega (arith, z)
+write_bits-requires g c = let z = c.requires.1.of_bits c.if-masked.true in omega (arith, z)
 
 pub returns-then-masked : goal.returns-then-masked
-returns-then-masked c =
+returns-then-masked g c =
     let z = c.args in
-    wrote z.w z.masked z.e z.t.ends z.t.values z.t.mask z.k z.r z.valid z.x z.room.now c.write_entry.ensures c.cell_of.ensures c.write_entry-2.ensures c.if-masked.true c.write_bits.ensures
+    wrote g.N.Unsigned.SIZE z.masked z.e z.t.ends z.t.values z.t.mask z.k z.r z.valid z.x z.room.now c.write_entry.ensures c.cell_of.ensures (rw c.SIZE.ensures at c.write_number.ensures) c.if-masked.true c.write_bits.ensures
 
 pub returns-else-masked : goal.returns-else-masked
-returns-else-masked c =
+returns-else-masked g c =
     let z = c.args in
-    wrote_two z.w z.masked z.e z.t.ends z.t.values z.t.mask z.k z.r z.valid z.x z.room.now c.write_entry.ensures c.cell_of.ensures c.write_entry-2.ensures c.if-masked.false
+    wrote_two g.N.Unsigned.SIZE z.masked z.e z.t.ends z.t.values z.t.mask z.k z.r z.valid z.x z.room.now c.write_entry.ensures c.cell_of.ensures (rw c.SIZE.ensures at c.write_number.ensures) c.if-masked.false

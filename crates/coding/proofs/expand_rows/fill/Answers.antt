@@ -14,30 +14,30 @@ more : (w i : ℕ) → w * (i + 1) ≡ w * i + w
 more w i = omega arith
 
 pub loop-i-init : goal.loop-i-init
-loop-i-init c = sym (repeated_none _ _ _ _)
+loop-i-init g c = sym (repeated_none _ _ _ _)
 
-pub overflow_mul-w : goal.overflow_mul-w
-overflow_mul-w c = let z = inside c.args.w c.loop-i.i c.args.n c.loop-i-test.true in omega (arith, z, c.requires.1)
+pub overflow_mul-SIZE : goal.overflow_mul-SIZE
+overflow_mul-SIZE g c = let z = inside g.N.Unsigned.SIZE c.loop-i.i c.args.n c.loop-i-test.true in rw c.SIZE.ensures (omega (arith, z, c.requires))
 
 pub overflow_add-at : goal.overflow_add-at
-overflow_add-at c = let z = inside c.args.w c.loop-i.i c.args.n c.loop-i-test.true in omega (arith, z, c.requires.1)
+overflow_add-at g c = let z = inside g.N.Unsigned.SIZE c.loop-i.i c.args.n c.loop-i-test.true in rw c.SIZE.ensures (omega (arith, z, c.requires))
 
-pub write_entry-requires : goal.write_entry-requires
-write_entry-requires c =
-    let z = inside c.args.w c.loop-i.i c.args.n c.loop-i-test.true in
-    (c.requires.0, omega (arith, z, c.requires.1))
+pub write_number-requires : goal.write_number-requires
+write_number-requires g c =
+    let z = inside g.N.Unsigned.SIZE c.loop-i.i c.args.n c.loop-i-test.true in
+    rw c.SIZE.ensures (omega (arith, z, c.requires))
 
 pub loop-i-preserved : goal.loop-i-preserved
-loop-i-preserved c =
+loop-i-preserved g c =
     let a = c.args in
     let l = c.loop-i in
-    let z = inside a.w l.i a.n c.loop-i-test.true in
-    cc (repeated_step a.w a.v a.room.now a.at l.i (omega (arith, z, more a.w l.i, c.requires.1)))
+    let z = inside g.N.Unsigned.SIZE l.i a.n c.loop-i-test.true in
+    cc (repeated_step g.N.Unsigned.SIZE a.v a.room.now a.at l.i (omega (arith, z, more g.N.Unsigned.SIZE l.i, c.requires)))
 
 pub shape_of-room : goal.shape_of-room
-shape_of-room c = omega arith
+shape_of-room g c = omega arith
 
 pub returns : goal.returns
-returns c =
+returns g c =
     let e : c.loop-i.i ≡ c.args.n = omega arith in
     c.loop-i.invariant ∙ rw e

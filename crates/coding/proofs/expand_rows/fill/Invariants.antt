@@ -4,4 +4,4 @@ use Rattle.utils.specs.Offsets.{repeated}
 use Rattle.coding.proofs.expand_rows.fill.Given as goal
 
 abbrev pub invariant-loop-i : goal.invariant-loop-i
-invariant-loop-i l = l.room ≡ splice l.at (repeated l.w l.v l.i) l.initial.room
+invariant-loop-i g l = l.room ≡ splice l.at (repeated g.N.Unsigned.SIZE l.v l.i) l.initial.room

@@ -84,46 +84,46 @@ rest_of : (x m r y k : ℕ) → r < m → x + r < y → k ≡ min (y - x) m → 
 rest_of x m r y k l a e = (omega arith, omega arith, omega arith)
 
 pub loop-r-init : goal.loop-r-init
-loop-r-init c =
+loop-r-init g c =
     let z = c.args in
     let k : z.m ≡ z.m - (z.run - z.run) = omega arith in
-    (omega arith, omega arith, omega arith, refl, first_at z.body.now z.e z.ends z.run z.x z.m z.count c.requires.ends.0, ap (λ f. from z.body.now z.w z.masked z.s.start z.s.mask z.s.bit z.e z.ends z.x z.m z.t.values z.t.mask f 0 z.run z.room.now) k)
+    (omega arith, omega arith, omega arith, refl, first_at z.body.now z.e z.ends z.run z.x z.m z.count c.requires.ends.0, ap (λ f. from z.body.now g.N.Unsigned.SIZE z.masked z.s.start z.s.mask z.s.bit z.e z.ends z.x z.m z.t.values z.t.mask f 0 z.run z.room.now) k)
 
 pub overflow_mul-q : goal.overflow_mul-q
-overflow_mul-q c = let k = (let fact : c.loop-r.r < c.args.m → c.args.ends + c.loop-r.q * c.args.e + c.args.e ≤ length c.args.body.now = λ l₁. let z = c.args in end_held z.body.now z.e z.ends z.run z.x z.m z.count c.requires.ends.0 c.loop-r.q (c.loop-r.invariant.4.some_run l₁) in fact) c.loop-r-test.true in omega (arith, k)
+overflow_mul-q g c = let k = (let fact : c.loop-r.r < c.args.m → c.args.ends + c.loop-r.q * c.args.e + c.args.e ≤ length c.args.body.now = λ l₁. let z = c.args in end_held z.body.now z.e z.ends z.run z.x z.m z.count c.requires.ends.0 c.loop-r.q (c.loop-r.invariant.4.some_run l₁) in fact) c.loop-r-test.true in omega (arith, k)
 
 pub overflow_add-ends : goal.overflow_add-ends
-overflow_add-ends c = let k = (let fact : c.loop-r.r < c.args.m → c.args.ends + c.loop-r.q * c.args.e + c.args.e ≤ length c.args.body.now = λ l₁. let z = c.args in end_held z.body.now z.e z.ends z.run z.x z.m z.count c.requires.ends.0 c.loop-r.q (c.loop-r.invariant.4.some_run l₁) in fact) c.loop-r-test.true in omega (arith, k)
+overflow_add-ends g c = let k = (let fact : c.loop-r.r < c.args.m → c.args.ends + c.loop-r.q * c.args.e + c.args.e ≤ length c.args.body.now = λ l₁. let z = c.args in end_held z.body.now z.e z.ends z.run z.x z.m z.count c.requires.ends.0 c.loop-r.q (c.loop-r.invariant.4.some_run l₁) in fact) c.loop-r-test.true in omega (arith, k)
 
 pub read_pattern-end-requires : goal.read_pattern-end-requires
-read_pattern-end-requires c = (c.requires.ends.0.sized, (let fact : c.loop-r.r < c.args.m → c.args.ends + c.loop-r.q * c.args.e + c.args.e ≤ length c.args.body.now = λ l₁. let z = c.args in end_held z.body.now z.e z.ends z.run z.x z.m z.count c.requires.ends.0 c.loop-r.q (c.loop-r.invariant.4.some_run l₁) in fact) c.loop-r-test.true)
+read_pattern-end-requires g c = (c.requires.ends.0.sized, (let fact : c.loop-r.r < c.args.m → c.args.ends + c.loop-r.q * c.args.e + c.args.e ≤ length c.args.body.now = λ l₁. let z = c.args in end_held z.body.now z.e z.ends z.run z.x z.m z.count c.requires.ends.0 c.loop-r.q (c.loop-r.invariant.4.some_run l₁) in fact) c.loop-r-test.true)
 
 pub overflow_sub-end : goal.overflow_sub-end
-overflow_sub-end c = omega (arith, c.loop-r.invariant.4.above c.loop-r-test.true, c.read_pattern-end.ensures)
+overflow_sub-end g c = omega (arith, c.loop-r.invariant.4.above c.loop-r-test.true, c.read_pattern-end.ensures)
 
 pub overflow_sub-n : goal.overflow_sub-n
-overflow_sub-n c = omega (arith, ((let fact : (c.min-next.result - c.loop-r.r ≡ min (end_in c.args.body.now c.args.e c.args.ends c.loop-r.q - (c.args.x + c.loop-r.r)) (c.args.m - c.loop-r.r)) × (c.loop-r.r < c.min-next.result) × (c.min-next.result ≤ c.args.m) = rest_of c.args.x c.args.m c.loop-r.r (end_in c.args.body.now c.args.e c.args.ends c.loop-r.q) c.min-next.result c.loop-r-test.true (c.loop-r.invariant.4.above c.loop-r-test.true) (c.min-next.ensures ∙ ap (λ k. min (k - c.args.x) c.args.m) c.read_pattern-end.ensures) in fact)).1)
+overflow_sub-n g c = omega (arith, ((let fact : (c.min-next.result - c.loop-r.r ≡ min (end_in c.args.body.now c.args.e c.args.ends c.loop-r.q - (c.args.x + c.loop-r.r)) (c.args.m - c.loop-r.r)) × (c.loop-r.r < c.min-next.result) × (c.min-next.result ≤ c.args.m) = rest_of c.args.x c.args.m c.loop-r.r (end_in c.args.body.now c.args.e c.args.ends c.loop-r.q) c.min-next.result c.loop-r-test.true (c.loop-r.invariant.4.above c.loop-r-test.true) (c.min-next.ensures ∙ ap (λ k. min (k - c.args.x) c.args.m) c.read_pattern-end.ensures) in fact)).1)
 
 pub is_valid-valid-requires : goal.is_valid-valid-requires
-is_valid-valid-requires c = bit_held c.args.body.now c.args.w c.args.masked c.args.s.start c.args.s.mask c.args.s.bit c.args.count c.requires.ends.1 c.loop-r.q (c.loop-r.invariant.4.some_run c.loop-r-test.true)
+is_valid-valid-requires g c = bit_held c.args.body.now g.N.Unsigned.SIZE c.args.masked c.args.s.start c.args.s.mask c.args.s.bit c.args.count c.requires.ends.1 c.loop-r.q (c.loop-r.invariant.4.some_run c.loop-r-test.true)
 
 pub number_at-v-requires : goal.number_at-v-requires
-number_at-v-requires c = (c.requires.ends.1.sized, row_held c.args.body.now c.args.w c.args.masked c.args.s.start c.args.s.mask c.args.s.bit c.args.count c.requires.ends.1 c.loop-r.q (c.loop-r.invariant.4.some_run c.loop-r-test.true))
+number_at-v-requires g c = (row_held c.args.body.now g.N.Unsigned.SIZE c.args.masked c.args.s.start c.args.s.mask c.args.s.bit c.args.count c.requires.ends.1 c.loop-r.q (c.loop-r.invariant.4.some_run c.loop-r-test.true))
 
 pub write_run-requires : goal.write_run-requires
-write_run-requires c =
+write_run-requires g c =
     let n = (let fact : (c.min-next.result - c.loop-r.r ≡ min (end_in c.args.body.now c.args.e c.args.ends c.loop-r.q - (c.args.x + c.loop-r.r)) (c.args.m - c.loop-r.r)) × (c.loop-r.r < c.min-next.result) × (c.min-next.result ≤ c.args.m) = rest_of c.args.x c.args.m c.loop-r.r (end_in c.args.body.now c.args.e c.args.ends c.loop-r.q) c.min-next.result c.loop-r-test.true (c.loop-r.invariant.4.above c.loop-r-test.true) (c.min-next.ensures ∙ ap (λ k. min (k - c.args.x) c.args.m) c.read_pattern-end.ensures) in fact) in
     let k : c.loop-r.r + (c.min-next.result - c.loop-r.r) ≤ c.args.m = omega (arith, n.1, n.2) in
-    (c.requires.ends.1.sized, rw c.loop-r.invariant.3 (fewer_hold c.args.w c.args.masked c.args.t.values c.args.t.mask (length c.args.room.now) c.args.m (c.loop-r.r + (c.min-next.result - c.loop-r.r)) c.requires.holds k))
+    (rw c.loop-r.invariant.3 (fewer_hold g.N.Unsigned.SIZE c.args.masked c.args.t.values c.args.t.mask (length c.args.room.now) c.args.m (c.loop-r.r + (c.min-next.result - c.loop-r.r)) c.requires.holds k))
 
 pub overflow_add-q : goal.overflow_add-q
-overflow_add-q c = omega (arith, c.loop-r.invariant.4.some_run c.loop-r-test.true)
+overflow_add-q g c = omega (arith, c.loop-r.invariant.4.some_run c.loop-r-test.true)
 
 pub loop-r-smaller : goal.loop-r-smaller
-loop-r-smaller c = let n = (let fact : (c.min-next.result - c.loop-r.r ≡ min (end_in c.args.body.now c.args.e c.args.ends c.loop-r.q - (c.args.x + c.loop-r.r)) (c.args.m - c.loop-r.r)) × (c.loop-r.r < c.min-next.result) × (c.min-next.result ≤ c.args.m) = rest_of c.args.x c.args.m c.loop-r.r (end_in c.args.body.now c.args.e c.args.ends c.loop-r.q) c.min-next.result c.loop-r-test.true (c.loop-r.invariant.4.above c.loop-r-test.true) (c.min-next.ensures ∙ ap (λ k. min (k - c.args.x) c.args.m) c.read_pattern-end.ensures) in fact) in omega (arith, n.1, n.2)
+loop-r-smaller g c = let n = (let fact : (c.min-next.result - c.loop-r.r ≡ min (end_in c.args.body.now c.args.e c.args.ends c.loop-r.q - (c.args.x + c.loop-r.r)) (c.args.m - c.loop-r.r)) × (c.loop-r.r < c.min-next.result) × (c.min-next.result ≤ c.args.m) = rest_of c.args.x c.args.m c.loop-r.r (end_in c.args.body.now c.args.e c.args.ends c.loop-r.q) c.min-next.result c.loop-r-test.true (c.loop-r.invariant.4.above c.loop-r-test.true) (c.min-next.ensures ∙ ap (λ k. min (k - c.args.x) c.args.m) c.read_pattern-end.ensures) in fact) in omega (arith, n.1, n.2)
 
 pub loop-r-preserved : goal.loop-r-preserved
-loop-r-preserved c =
+loop-r-preserved g c =
     let z = c.args in
     let l = c.loop-r in
     let k = c.loop-r-test.true in
@@ -138,14 +138,14 @@ loop-r-preserved c =
       omega (arith, l.invariant.3),
       subst (λ y. At z.body.now z.e z.ends z.x z.m z.count y (l.q + 1)) v (next_at_lem z.body.now z.e z.ends z.run z.x z.m z.count c.requires.ends.0 l.r l.q (u - l.r) k l.invariant.4 n.0),
       l.invariant.5
-          ∙ step_to z.body.now z.w z.masked z.s.start z.s.mask z.s.bit z.e z.ends z.x z.m z.t.values z.t.mask (z.m - (l.q - z.run)) (z.m - (l.q + 1 - z.run)) l.r l.q (u - l.r) u l.room v (some_fuel z.m l.q z.run l.r k l.invariant.2) f k n.0 c.is_valid-valid.ensures c.number_at-v.ensures c.write_run.ensures,
+          ∙ step_to z.body.now g.N.Unsigned.SIZE z.masked z.s.start z.s.mask z.s.bit z.e z.ends z.x z.m z.t.values z.t.mask (z.m - (l.q - z.run)) (z.m - (l.q + 1 - z.run)) l.r l.q (u - l.r) u l.room v (some_fuel z.m l.q z.run l.r k l.invariant.2) f k n.0 c.is_valid-valid.ensures c.number_at-v.ensures c.write_run.ensures,
     )
 
 pub shape_of-room : goal.shape_of-room
-shape_of-room c = omega (arith, c.loop-r.invariant.3)
+shape_of-room g c = omega (arith, c.loop-r.invariant.3)
 
 pub returns : goal.returns
-returns c =
+returns g c =
     let z = c.args in
     let l = c.loop-r in
-    sym (l.invariant.5 ∙ none_left z.body.now z.w z.masked z.s.start z.s.mask z.s.bit z.e z.ends z.x z.m z.t.values z.t.mask (z.m - (l.q - z.run)) l.r l.q l.room (omega (arith, c.loop-r-test.false)))
+    sym (l.invariant.5 ∙ none_left z.body.now g.N.Unsigned.SIZE z.masked z.s.start z.s.mask z.s.bit z.e z.ends z.x z.m z.t.values z.t.mask (z.m - (l.q - z.run)) l.r l.q l.room (omega (arith, c.loop-r-test.false)))

@@ -11,10 +11,10 @@ pub record At (body : List ℕ) (e ends x m count r q : ℕ) : Type 0 where
   pub above : r < m → x + r < end_in body e ends q
 
 abbrev pub invariant-loop-r : goal.invariant-loop-r
-invariant-loop-r l =
+invariant-loop-r g l =
     (l.r ≤ l.m) × (l.run ≤ l.q) × (l.q ≤ l.run + l.r) × (length l.room ≡ length l.initial.room) × At l.body l.e l.ends l.x l.m l.count l.r l.q
-    × (rows_from l.body l.w l.masked l.s.start l.s.mask l.s.bit l.e l.ends l.x l.m l.t.values l.t.mask l.m 0 l.run l.initial.room
-    ≡ rows_from l.body l.w l.masked l.s.start l.s.mask l.s.bit l.e l.ends l.x l.m l.t.values l.t.mask (l.m - (l.q - l.run)) l.r l.q l.room)
+    × (rows_from l.body g.N.Unsigned.SIZE l.masked l.s.start l.s.mask l.s.bit l.e l.ends l.x l.m l.t.values l.t.mask l.m 0 l.run l.initial.room
+    ≡ rows_from l.body g.N.Unsigned.SIZE l.masked l.s.start l.s.mask l.s.bit l.e l.ends l.x l.m l.t.values l.t.mask (l.m - (l.q - l.run)) l.r l.q l.room)
 
 abbrev pub decreases-loop-r : goal.decreases-loop-r
-decreases-loop-r l = l.m - l.r
+decreases-loop-r g l = l.m - l.r

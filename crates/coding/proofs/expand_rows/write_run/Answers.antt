@@ -29,23 +29,23 @@ module _ (w : ℕ) (masked : Bool) (values mask r n : ℕ) (valid : Bool) (x : �
   wrote_one a b d = b ∙ rw (d, a)
 
 pub overflow_mul-r : goal.overflow_mul-r
-overflow_mul-r c = let z = rows_in_lem c.args.r c.args.n c.requires.1 in omega (arith, z)
+overflow_mul-r g c = let z = rows_in_lem c.args.r c.args.n c.requires in rw c.SIZE.ensures (omega (arith, z))
 
 pub overflow_add-t : goal.overflow_add-t
-overflow_add-t c = let z = rows_in_lem c.args.r c.args.n c.requires.1 in omega (arith, z)
+overflow_add-t g c = let z = rows_in_lem c.args.r c.args.n c.requires in rw c.SIZE.ensures (omega (arith, z))
 
 pub fill_by-requires : goal.fill_by-requires
-fill_by-requires c = (c.requires.0, rows_in_lem c.args.r c.args.n c.requires.1)
+fill_by-requires g c = rw c.SIZE.ensures (rows_in_lem c.args.r c.args.n c.requires)
 
 pub write_bits-requires : goal.write_bits-requires
-write_bits-requires c = let z = c.requires.1.of_bits c.if-masked.true in omega (arith, z)
+write_bits-requires g c = let z = c.requires.of_bits c.if-masked.true in omega (arith, z)
 
 pub returns-then-masked : goal.returns-then-masked
-returns-then-masked c =
+returns-then-masked g c =
     let z = c.args in
-    wrote z.w z.masked z.t.values z.t.mask z.r z.n z.valid z.x z.room.now c.cell_of.ensures c.fill_by.ensures c.if-masked.true c.write_bits.ensures
+    wrote g.N.Unsigned.SIZE z.masked z.t.values z.t.mask z.r z.n z.valid z.x z.room.now c.cell_of.ensures (rw c.SIZE.ensures at c.fill_by.ensures) c.if-masked.true c.write_bits.ensures
 
 pub returns-else-masked : goal.returns-else-masked
-returns-else-masked c =
+returns-else-masked g c =
     let z = c.args in
-    wrote_one z.w z.masked z.t.values z.t.mask z.r z.n z.valid z.x z.room.now c.cell_of.ensures c.fill_by.ensures c.if-masked.false
+    wrote_one g.N.Unsigned.SIZE z.masked z.t.values z.t.mask z.r z.n z.valid z.x z.room.now c.cell_of.ensures (rw c.SIZE.ensures at c.fill_by.ensures) c.if-masked.false
