@@ -1,39 +1,35 @@
 -- An accepted column that the encoder takes: what it and its target are, and that its rows stand in the body. Assumes nothing.
-use mathlib.Core.Path.{◌≡◌, refl, sym, ap, ap₂, subst, ◌∙◌}
-use mathlib.Core.Bool.{Bool, true, false, not, cond, ◌&&◌}
-use mathlib.Core.List.{List, [], ◌∷◌}
-use Prim.Native.Nat.{ℕ, zero, suc, ◌+◌, ◌*◌, ◌-◌, ◌^◌, ◌≤◌, ◌<◌}
+use mathlib.Core.Path.{◌≡◌, refl, sym, ap, subst, ◌∙◌}
+use mathlib.Core.Bool.{Bool, true, false, ◌&&◌}
+use mathlib.Core.List.{List}
+use Prim.Native.Nat.{ℕ, ◌+◌, ◌-◌, ◌^◌, ◌≤◌, ◌<◌}
 use native.Mathlib.Omega.{arith}
-use lib.ListN.{length, get_or, replicate, length-replicate}
+use lib.ListN.{length}
 use lib.Dec.{T, leb, ltb, eqb}
 use borrow.Author.Tests.{leb-true, ltb-true, eqb-true}
-use Rattle.columnar.specs.Types.{Number, width, half, fixed, Ty, t_plain, t_run_end}
+use Rattle.columnar.specs.Types.{half, fixed, t_plain, t_run_end}
 use Rattle.columnar.specs.Formed.{RunWidth}
-use Rattle.columnar.specs.Array.{null_count_of}
-use Rattle.columnar.specs.Reading.{Column, Source}
+use Rattle.columnar.specs.Reading.{Source}
 use Rattle.columnar.proofs.Test.{every_out}
 use Rattle.schema.specs.formats.Code.{is_fixed, is_run_end, width_of}
 use Rattle.schema.specs.formats.Types.{number_of, number_or}
 use Rattle.schema.specs.Tree.{dictionary, code_of, ceilings, typed}
 use Rattle.schema.proofs.Known.{typed_whole}
-use Rattle.array_data.specs.Tables.{Tables, length_of, offset_of, place, valid_of, first_buffer}
-use Rattle.array_data.specs.Rules.{one_in, fixed_rule}
-use Rattle.array_data.specs.NodeKinds.{fixed_node}
+use Rattle.array_data.specs.Tables.{Tables, length_of, offset_of, place}
+use Rattle.array_data.specs.Rules.{one_in}
 use Rattle.array_data.specs.Typed.{column_of, tables_from, source_rule, node_rule, kind_rule}
-use Rattle.array_data.specs.lent_tables.Lent.{tables}
 use Rattle.array_data.specs.type_tree.Lent.{tree_of, type_of}
 use Rattle.array_data.proofs.lent_tables.Laws.{and_left, and_right, first_in}
 use Rattle.array_data.proofs.type_tree.Lent.{some_node}
 use Rattle.array_data.proofs.type_tree.Shaped.{at_fixed, at_run}
 use Rattle.array_data.proofs.type_tree.Source.{lent_source}
-use Rattle.source_rules.specs.kinds.Rows.{tables_of}
 use Rattle.source_rules.proofs.From.{length_from, offset_from}
 use Rattle.columns.specs.Grounds.{ceiling, small_body, within_ceilings, obeys, column_ground}
 use Rattle.columns.proofs.Grounds.{within_low}
 use Rattle.columns.proofs.Answers.{sum_fits}
 use Rattle.aggregates.proofs.Types.{run_over}
 use Rattle.columns.specs.column_pair.Pair.{range_in}
-use Rattle.coding.specs.Encode.{plain_at, number, end_width, runs_over, encode_own, plain_column}
+use Rattle.coding.specs.Encode.{plain_at, number, end_width, runs_over, encode_own}
 use Rattle.coding.proofs.Tests.{chosen}
 use Rattle.array_data.proofs.type_tree.ByKind.{type_as}
 

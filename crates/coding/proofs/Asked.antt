@@ -1,13 +1,11 @@
 -- What each return of the encoder's question and of its call answers. Assumes nothing.
-use mathlib.Core.Path.{◌≡◌, refl, sym, ap, subst, ◌∙◌}
+use mathlib.Core.Path.{◌≡◌, refl, sym, ap, ◌∙◌}
 use mathlib.Core.Bool.{Bool, true, false, not, ◌&&◌}
 use mathlib.Core.List.{List}
-use Prim.Native.Nat.{ℕ, ◌-◌, ◌≤◌, ◌<◌, ◌^◌}
-use native.Mathlib.Omega.{arith}
+use Prim.Native.Nat.{ℕ, ◌≤◌, ◌<◌, ◌^◌}
 use lib.ListN.{length, get_or}
 use lib.Dec.{eqb}
 use borrow.Author.Tests.{eq-eqb, ne_eqb, eqb-true, le-leb, lt-leb}
-use Rattle.array_data.specs.lent_tables.Lent.{tables}
 use Rattle.source_rules.specs.kinds.Rows.{tables_of}
 use Rattle.array_data.proofs.lent_tables.Laws.{and_left, and_right}
 use Rattle.columns.specs.Grounds.{ceiling, small_body, column_ground}

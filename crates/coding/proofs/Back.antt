@@ -8,8 +8,8 @@ use native.Mathlib.Omega.{arith}
 use lib.ListN.{length, get_or}
 use borrow.Author.Tests.{le-leb}
 use Rattle.columnar.specs.Row.{Row, seg}
-use Rattle.columnar.specs.Types.{Number, fixed, t_plain, t_run_end}
-use Rattle.columnar.specs.Reading.{Column, read, read_all}
+use Rattle.columnar.specs.Types.{fixed, t_plain, t_run_end}
+use Rattle.columnar.specs.Reading.{read, read_all}
 use Rattle.schema.specs.formats.Types.{number_of, number_or}
 use Rattle.schema.specs.Tree.{code_of}
 use Rattle.array_data.specs.Tables.{Tables, length_of}
@@ -22,7 +22,7 @@ use Rattle.columns.specs.column_pair.Pair.{range_in}
 use Rattle.refinement.specs.log_in_room.Room.{AllBelow}
 use Rattle.refinement.specs.finishing.Shows.{finished_tables, Bodied}
 use Rattle.anew.specs.Anew.{room_ground}
-use Rattle.anew.proofs.Laws.{Accepted, anew_accepted}
+use Rattle.anew.proofs.Laws.{anew_accepted}
 use Rattle.anew.proofs.Result.{lent_for}
 use Rattle.coding.specs.Encode.{number, end_width, plain_column, encode_plan, encoding}
 use Rattle.coding.specs.Expand.{value_number, plain_over, expand_plan, expand_out, expanding}

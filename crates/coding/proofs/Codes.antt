@@ -1,12 +1,11 @@
 -- The ten fixed-width formats by their codes, and a node's type by them. Assumes nothing.
 use mathlib.Core.Path.{◌≡◌, refl, sym, subst}
-use mathlib.Core.Bool.{Bool, true, ◌&&◌}
-use mathlib.Core.List.{List}
-use Prim.Native.Nat.{ℕ, zero, suc, ◌%◌, ◌≤◌, ◌<◌}
+use mathlib.Core.Bool.{true}
+use Prim.Native.Nat.{ℕ, zero, suc, ◌%◌, ◌≤◌}
 use native.Mathlib.Omega.{arith}
-use lib.Dec.{leb, ltb, eqb}
+use lib.Dec.{leb, ltb}
 use borrow.Author.Tests.{leb-true}
-use Rattle.columnar.specs.Types.{Number, width}
+use Rattle.columnar.specs.Types.{width}
 use Rattle.columnar.specs.Formed.{RunWidth, two, four, eight}
 use Rattle.schema.specs.formats.Code.{is_fixed, width_of}
 use Rattle.schema.specs.formats.Types.{number_of, number_or}

@@ -1,12 +1,11 @@
 -- "10": the target is taken exactly where its type is the one that is due, runs of the column's numbers or the numbers of its runs. Assumes nothing.
 use mathlib.Core.Path.{◌≡◌, refl, sym, ap, ◌∙◌}
-use mathlib.Core.Bool.{Bool, true, false, ◌&&◌}
+use mathlib.Core.Bool.{true, ◌&&◌}
 use mathlib.Core.List.{List}
 use Prim.Native.Nat.{ℕ}
-use lib.Dec.{eqb}
 use borrow.Author.Tests.{eq-eqb}
 use Rattle.columnar.specs.Types.{Number, int, uint, w1, w2, w4, w8, f32, f64, fixed, string, Ty, t_plain, t_view, t_list_view, t_list, t_sparse, t_dense, t_run_end, t_dictionary}
-use Rattle.schema.specs.formats.Code.{is_fixed, is_run_end, width_of}
+use Rattle.schema.specs.formats.Code.{is_fixed, is_run_end}
 use Rattle.schema.specs.formats.Types.{number_of, number_or}
 use Rattle.schema.specs.Tree.{code_of, ceilings, typed}
 use Rattle.array_data.specs.type_tree.Lent.{type_of}

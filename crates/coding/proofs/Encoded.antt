@@ -1,42 +1,40 @@
 -- The encoder on an accepted column: what its code reads and writes is what its walk says. Assumes nothing.
-use mathlib.Core.Path.{◌≡◌, refl, sym, ap, ap₂, subst, ◌∙◌}
-use mathlib.Core.Bool.{Bool, true, false, not, cond, ◌||◌}
-use mathlib.Core.List.{List, [], ◌∷◌}
+use mathlib.Core.Path.{◌≡◌, refl, ap, subst, ◌∙◌}
+use mathlib.Core.Bool.{Bool, true, false, not, ◌||◌}
+use mathlib.Core.List.{List, []}
 use Prim.Native.Nat.{ℕ, zero, suc, ◌+◌, ◌*◌, ◌-◌, ◌^◌, ◌≤◌, ◌<◌}
 use native.Mathlib.Omega.{arith}
 use lib.ListN.{length, get_or, replicate, length-replicate}
 use lib.Dec.{ltb, eqb}
-use borrow.Author.Tests.{eqb-true, eqb-false}
-use Rattle.columnar.specs.Types.{Number, width, half, fixed, Ty, t_plain, t_run_end}
+use borrow.Author.Tests.{eqb-false}
+use Rattle.columnar.specs.Types.{Number, half, fixed, t_plain}
 use Rattle.columnar.specs.Formed.{RunWidth, two, four, eight}
 use Rattle.columnar.specs.Array.{null_count_of}
 use Rattle.columnar.specs.Reading.{Column, Source}
-use Rattle.schema.specs.formats.Code.{width_of}
-use Rattle.schema.specs.Tree.{code_of, typed}
+use Rattle.schema.specs.Tree.{code_of}
 use Rattle.array_data.specs.Tables.{Tables, length_of, offset_of, place, first_buffer}
 use Rattle.array_data.specs.Typed.{column_of, tables_from}
 use Rattle.array_data.specs.lent_tables.Lent.{tables}
-use Rattle.array_data.specs.type_tree.Lent.{tree_of, type_of}
+use Rattle.array_data.specs.type_tree.Lent.{tree_of}
 use Rattle.source_rules.specs.kinds.Rows.{tables_of}
 use Rattle.source_rules.proofs.From.{length_from}
 use Rattle.columns.specs.Grounds.{column_ground}
 use Rattle.walk.specs.State.{far}
-use Rattle.walk.specs.Log.{start_of, apply, Did}
-use Rattle.anew.specs.ResultPlan.{keeps_from, Comes}
+use Rattle.walk.specs.Log.{apply, Did}
+use Rattle.anew.specs.ResultPlan.{Comes}
 use Rattle.anew.proofs.Bits.{keeps_typed}
 use Rattle.anew.proofs.Comes.{comes}
-use Rattle.anew.proofs.Planted.{few}
 use Rattle.columns.proofs.Grounds.{within_low}
 use Rattle.anew.proofs.result_plan.Answered.{made_room_lem}
 use Rattle.anew.specs.runs.Runs.{ok_at, alike, those, edge}
 use Rattle.coding.specs.run_coding.Rows.{change_in, last_in, last_rows}
 use Rattle.coding.specs.run_coding.Writes.{Fits}
 use Rattle.coding.specs.Counted.{all_counts}
-use Rattle.coding.specs.Encode.{plain_at, from_column, number, end_width, encode_own, plain_column, encode_keeps, encode_plan, encode_out, wide, rows_at, mask_at, bit_at, Codable, last_of, RoomFor, runs_in}
+use Rattle.coding.specs.Encode.{from_column, number, end_width, encode_own, plain_column, encode_keeps, encode_out, wide, rows_at, mask_at, bit_at, Codable, last_of, RoomFor, runs_in}
 use Rattle.coding.proofs.Codes.{code_width_lem}
 use Rattle.coding.proofs.Node.{node_held, valid_same, number_same, bytes_same}
 use Rattle.coding.proofs.Walked.{encode_did}
-use Rattle.coding.proofs.Accepted.{Passed, passed, Own, own_none, PlainIs, plain_is, DueIs, due_is, type_plain, due_type, due_width, range_is, node_inside, node_sum, column_source, root_in}
+use Rattle.coding.proofs.Accepted.{Passed, passed, Own, own_none, PlainIs, plain_is, DueIs, due_is, type_plain, due_width, range_is, node_inside, node_sum, column_source, root_in}
 
 -- a run end of w bytes is below 2 ^ 63
 low_half : (w : ℕ) → RunWidth w → half w ≤ 9223372036854775808

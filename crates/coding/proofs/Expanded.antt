@@ -1,7 +1,7 @@
 -- The expansion on an accepted column: what its code reads and writes is what its walk says. Assumes nothing.
-use mathlib.Core.Path.{◌≡◌, refl, sym, ap, ap₂, subst, ◌∙◌}
-use mathlib.Core.Bool.{Bool, true, false, not, cond, ◌&&◌}
-use mathlib.Core.List.{List, [], ◌∷◌}
+use mathlib.Core.Path.{◌≡◌, refl, sym, ap, subst, ◌∙◌}
+use mathlib.Core.Bool.{Bool, true, ◌&&◌}
+use mathlib.Core.List.{List, []}
 use Prim.Native.Nat.{ℕ, zero, suc, ◌+◌, ◌*◌, ◌-◌, ◌^◌, ◌≤◌, ◌<◌}
 use native.Mathlib.Nat.{add-zero, mul_comm, add-mul, le_trans}
 use native.Mathlib.Omega.{arith}
@@ -9,14 +9,14 @@ use lib.ListN.{length, drop, get_or, replicate, length-replicate}
 use lib.Dec.{ltb, eqb}
 use borrow.Author.Tests.{eqb-true}
 use Rattle.number.specs.Number.{number}
-use Rattle.columnar.specs.Types.{Number, width, fixed, Ty, t_plain, t_run_end}
+use Rattle.columnar.specs.Types.{Number, fixed, t_plain, t_run_end}
 use Rattle.columnar.specs.Formed.{RunWidth, two, four, eight}
-use Rattle.columnar.specs.Array.{null_count_of, item}
+use Rattle.columnar.specs.Array.{null_count_of}
 use Rattle.columnar.specs.RunEnd.{end_of}
 use Rattle.columnar.specs.RunEnd as ends
 use Rattle.columnar.specs.Reading.{Column, Source}
 use Rattle.columnar.proofs.Items.{entry_end}
-use Rattle.schema.specs.formats.Code.{is_fixed, is_run_end, width_of}
+use Rattle.schema.specs.formats.Code.{is_run_end}
 use Rattle.schema.specs.Tree.{code_of, ceilings, typed}
 use Rattle.array_data.specs.Tables.{Tables, length_of, offset_of, place, first_buffer}
 use Rattle.array_data.specs.Typed.{column_of, tables_from}
@@ -30,12 +30,11 @@ use Rattle.columns.specs.Grounds.{column_ground}
 use Rattle.columns.proofs.Grounds.{within_low}
 use Rattle.columns.proofs.Answers.{sum_fits}
 use Rattle.columns.specs.column_pair.Pair.{range_in}
-use Rattle.aggregates.specs.stretches.Ends.{ends_of}
 use Rattle.aggregates.proofs.stretches.Stretch.{ends_fit, ends_held, answered_is}
 use Rattle.aggregates.proofs.Types.{run_over}
 use Rattle.walk.specs.State.{far}
-use Rattle.walk.specs.Log.{start_of, apply, Did}
-use Rattle.anew.specs.ResultPlan.{keeps_from, Comes}
+use Rattle.walk.specs.Log.{apply, Did}
+use Rattle.anew.specs.ResultPlan.{Comes}
 use Rattle.anew.proofs.Bits.{keeps_typed}
 use Rattle.anew.proofs.Comes.{comes}
 use Rattle.anew.proofs.result_plan.Answered.{made_room_lem}
@@ -43,15 +42,15 @@ use Rattle.anew.specs.runs.Coding.{run_at}
 use Rattle.anew.proofs.runs.Fewest.{run_there}
 use Rattle.aggregates.proofs.stretches.FirstAbove.{first_above_lem}
 use Rattle.coding.specs.run_coding.Rows.{Held}
-use Rattle.coding.specs.run_coding.Writes.{Holds, Ends, end_in}
+use Rattle.coding.specs.run_coding.Writes.{Holds, end_in}
 use Rattle.coding.specs.Counted.{row_counts}
 use Rattle.coding.specs.Encode.{plain_at}
-use Rattle.coding.specs.Expand.{from_values, value_number, run_width, runs_of_plain, plain_over, expand_own, run_column, expand_keeps, expand_plan, expand_out, run_or, value_wide, end_wide, values_at, value_mask, value_bit, ends_at, first_row, first_run, Expandable, RowsFit, rows_in}
+use Rattle.coding.specs.Expand.{from_values, value_number, run_width, runs_of_plain, plain_over, expand_own, run_column, expand_keeps, expand_out, run_or, value_wide, end_wide, values_at, value_mask, value_bit, ends_at, first_row, first_run, Expandable, RowsFit, rows_in}
 use Rattle.coding.proofs.Tests.{chosen}
-use Rattle.coding.proofs.Codes.{code_width_lem, code_wide, ends_sized}
+use Rattle.coding.proofs.Codes.{code_width_lem, ends_sized}
 use Rattle.coding.proofs.Node.{node_held, valid_same, bytes_same}
 use Rattle.coding.proofs.Rowed.{expand_did}
-use Rattle.coding.proofs.Accepted.{Passed, passed, PlainIs, plain_is, type_plain, type_runs, range_is, node_inside, node_sum, column_source, root_in}
+use Rattle.coding.proofs.Accepted.{Passed, passed, PlainIs, plain_is, type_plain, type_runs, range_is, node_inside, column_source}
 
 -- ---- what the expansion's own grounds let through
 

@@ -1,8 +1,8 @@
 -- Parts that have room for a run a row have room for the runs: so they need not be counted first. Assumes nothing.
-use mathlib.Core.Path.{◌≡◌, refl, sym, ap, ◌∙◌}
-use mathlib.Core.Bool.{Bool, true, false, cond, ◌&&◌}
+use mathlib.Core.Path.{◌≡◌, refl, sym, ◌∙◌}
+use mathlib.Core.Bool.{Bool, true, false, cond}
 use mathlib.Core.List.{List}
-use Prim.Native.Nat.{ℕ, zero, suc, ◌+◌, ◌*◌, ◌/◌, ◌≤◌, ◌<◌}
+use Prim.Native.Nat.{ℕ, zero, suc, ◌+◌, ◌*◌, ◌≤◌}
 use native.Mathlib.Nat.{mul-le-mul_right, le_refl, le_trans}
 use native.Mathlib.Omega.{arith}
 use lib.ListN.{get_or, set, replicate}
@@ -16,7 +16,7 @@ use Rattle.walk.specs.State.{code_of, rows, bytes}
 use Rattle.plan.specs.parts.Parts.{nodes_of, has_part, has_offsets, entry_size, needed_by, needed, size_of, part_holds, parts_hold}
 use Rattle.anew.specs.Anew.{room_ground}
 use Rattle.coding.specs.Counted.{run_counts, all_counts}
-use Rattle.coding.proofs.Room.{Free, room_free}
+use Rattle.coding.proofs.Room.{room_free}
 
 -- fewer rows need no more bytes
 needed_less : (code r q n b : ℕ) → r ≤ q → needed_by code r n b ≤ needed_by code q n b

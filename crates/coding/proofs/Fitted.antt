@@ -1,27 +1,25 @@
 -- The runs fit where no ground of the room stands, and what they fill is the encoded column. Assumes nothing.
-use mathlib.Core.Path.{◌≡◌, refl, sym, ap, subst, ◌∙◌}
+use mathlib.Core.Path.{◌≡◌, refl, sym, subst, ◌∙◌}
 use mathlib.Core.Bool.{Bool, true, false}
-use mathlib.Core.List.{List, [], ◌∷◌}
-use Prim.Native.Nat.{ℕ, zero, suc, ◌+◌, ◌*◌, ◌-◌, ◌^◌, ◌≤◌, ◌<◌}
+use mathlib.Core.List.{List}
+use Prim.Native.Nat.{ℕ, suc, ◌+◌, ◌*◌, ◌^◌, ◌≤◌, ◌<◌}
 use native.Mathlib.Omega.{arith}
 use lib.ListN.{length, get_or}
 use Rattle.columnar.specs.Types.{fixed, t_plain, t_run_end}
-use Rattle.schema.specs.formats.Code.{is_fixed, width_of}
-use Rattle.schema.specs.Tree.{code_of}
+use Rattle.schema.specs.formats.Code.{width_of}
 use Rattle.array_data.specs.Tables.{Tables}
 use Rattle.array_data.specs.lent_tables.Lent.{tables}
 use Rattle.array_data.specs.type_tree.Lent.{type_of}
 use Rattle.source_rules.specs.kinds.Rows.{tables_of}
 use Rattle.columns.specs.Grounds.{small_body, column_ground}
 use Rattle.anew.specs.Anew.{room_ground}
-use Rattle.anew.specs.ResultPlan.{keeps_from}
 use Rattle.anew.proofs.Comes.{new_keeps}
 use Rattle.coding.proofs.run_walks.Plans.{RunsPlan, runs_plan, runs_ends}
 use Rattle.coding.specs.Counted.{all_counts}
-use Rattle.coding.specs.Encode.{from_column, number, end_width, encode_own, encode_keeps, encode_plan, wide, last_of, RoomFor}
+use Rattle.coding.specs.Encode.{from_column, number, end_width, encode_own, encode_keeps, encode_plan, last_of, RoomFor}
 use Rattle.coding.proofs.Accepted.{due_type}
 use Rattle.coding.proofs.Encoded.{due}
-use Rattle.coding.proofs.Room.{Free, room_free, ends_fixed, numbers_fit, bits_fit}
+use Rattle.coding.proofs.Room.{room_free, ends_fixed, numbers_fit, bits_fit}
 
 module _ (formats schema lengths places buffers body : List ℕ) (first n target start end : ℕ) (low : first < 2 ^ 32) (small : (j : ℕ) → get_or body j 0 < 256)
     (g : column_ground formats schema (tables_of lengths places buffers body) first n ≡ 0) (o : encode_own formats schema (tables_of lengths places buffers body) first n target start end ≡ 0) where

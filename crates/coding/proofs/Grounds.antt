@@ -1,10 +1,9 @@
 -- What each return of the encoder's own tests answers. Assumes nothing.
-use mathlib.Core.Path.{◌≡◌, refl, sym, ap, ◌∙◌}
-use mathlib.Core.Bool.{Bool, true, false, not, cond, ◌&&◌}
+use mathlib.Core.Path.{◌≡◌, refl, ap, ◌∙◌}
+use mathlib.Core.Bool.{Bool, true, false, not}
 use mathlib.Core.List.{List, []}
-use Prim.Native.Nat.{ℕ, ◌-◌, ◌≤◌}
+use Prim.Native.Nat.{ℕ, ◌-◌}
 use lib.Dec.{ltb, eqb}
-use borrow.Author.Tests.{eqb-true}
 use Rattle.columnar.specs.Types.{half}
 use Rattle.schema.specs.formats.Code.{is_fixed, is_run_end, width_of}
 use Rattle.schema.specs.Tree.{dictionary, code_of, ceilings, typed}

@@ -1,9 +1,9 @@
 -- The rows of a fixed-width node as they stand in the body are those of its column. Assumes nothing.
-use mathlib.Core.Path.{◌≡◌, refl, sym, ap, ap₂, subst, ◌∙◌}
-use mathlib.Core.Bool.{Bool, true, false, not, cond, false≢true}
-use mathlib.Core.Option.{Option, none, some}
-use mathlib.Core.List.{List, [], ◌∷◌}
-use Prim.Native.Nat.{ℕ, zero, suc, ◌+◌, ◌*◌, ◌-◌, ◌/◌, ◌%◌, ◌^◌, ◌≤◌, ◌<◌}
+use mathlib.Core.Path.{◌≡◌, refl, sym, ap, ◌∙◌}
+use mathlib.Core.Bool.{Bool, true, false, cond}
+use mathlib.Core.Option.{none, some}
+use mathlib.Core.List.{List, ◌∷◌}
+use Prim.Native.Nat.{ℕ, zero, suc, ◌+◌, ◌*◌, ◌/◌, ◌%◌, ◌^◌, ◌≤◌, ◌<◌}
 use native.Mathlib.Nat.{le_trans, mul-le-mul_right, add-mul}
 use native.Mathlib.Omega.{arith}
 use lib.ListN.{length, take, drop, get_or, replicate, length-take, length-drop}
@@ -13,7 +13,7 @@ use borrow.Author.Tests.{ltb-true, ltb-false}
 use Rattle.number.specs.Number.{number, encode}
 use Rattle.number.proofs.Laws.{encode_number}
 use Rattle.columnar.specs.Types.{Number, width, fixed, t_plain}
-use Rattle.columnar.specs.Array.{Array, item, bit, ok, nulls_in, null_count_of, Mask}
+use Rattle.columnar.specs.Array.{item, bit, ok, nulls_in, null_count_of, Mask}
 use Rattle.columnar.specs.Plain.{stored}
 use Rattle.columnar.specs.Reading.{Column}
 use Rattle.columnar.proofs.Items.{entry_end}

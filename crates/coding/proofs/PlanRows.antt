@@ -2,7 +2,7 @@
 use mathlib.Core.Path.{◌≡◌, refl, sym, ap, ◌∙◌}
 use mathlib.Core.Bool.{Bool, true, false, not, cond, ◌&&◌}
 use mathlib.Core.List.{List, [], ◌∷◌}
-use Prim.Native.Nat.{ℕ, zero, suc, ◌+◌, ◌*◌, ◌/◌, ◌%◌, ◌≤◌, ◌<◌}
+use Prim.Native.Nat.{ℕ, zero, suc, ◌+◌, ◌/◌, ◌%◌, ◌≤◌, ◌<◌}
 use native.Mathlib.Decide.{dec_lt}
 use native.Mathlib.Nat.{zero-add}
 use native.Mathlib.Omega.{arith}
@@ -13,9 +13,7 @@ use borrow.Author.Tests.{eqb-true, le-ltb}
 use Rattle.model.proofs.Bits.{get_d_seg}
 use Rattle.schema.specs.formats.Code.{is_fixed}
 use Rattle.schema.specs.Tree as trees
-use Rattle.array_data.specs.Tables.{Tables}
 use Rattle.array_data.specs.node_words.Words.{word_of, planted, id_below}
-use Rattle.array_data.proofs.lent_tables.Laws.{and_right}
 use Rattle.plan.specs.Plan.{filled, flag, with_tree, with_counts, with_parts, with_total}
 use Rattle.plan.specs.parts.Parts.{copied, validity_parts, buffer_parts, buffer_count, parts_before, part_word, part_total}
 use Rattle.plan.proofs.Words.{filled_length, filled_other, filled_at}

@@ -1,12 +1,12 @@
 -- Where no ground of the room stands, each part has room for what the counters say. Assumes nothing.
-use mathlib.Core.Path.{◌≡◌, refl, sym, ap, subst, ◌∙◌}
+use mathlib.Core.Path.{◌≡◌, refl, ap, subst, ◌∙◌}
 use mathlib.Core.Bool.{Bool, true, false, cond, ◌&&◌}
 use mathlib.Core.List.{List}
-use Prim.Native.Nat.{ℕ, zero, suc, ◌+◌, ◌*◌, ◌/◌, ◌≤◌, ◌<◌}
+use Prim.Native.Nat.{ℕ, suc, ◌+◌, ◌*◌, ◌/◌, ◌≤◌, ◌<◌}
 use native.Mathlib.Omega.{arith}
 use lib.ListN.{length}
 use lib.Dec.{eqb}
-use Rattle.columnar.specs.Types.{Number, fixed, Ty, t_plain, t_run_end}
+use Rattle.columnar.specs.Types.{Ty, t_run_end}
 use Rattle.schema.specs.formats.Code.{is_fixed, width_of}
 use Rattle.schema.specs.Tree.{ceilings, typed}
 use Rattle.schema.specs.Tree as trees

@@ -1,10 +1,9 @@
 -- What the expansion's loop writes is what its walk writes: for a room in which the rows fit. Assumes nothing.
 use mathlib.Core.Path.{◌≡◌, refl, sym, ap, ap₂, subst, ◌∙◌}
 use mathlib.Core.Bool.{Bool, true, false, cond}
-use mathlib.Core.List.{List, [], ◌∷◌, ◌++◌, append-nil, append_assoc}
-use Prim.Native.Nat.{ℕ, zero, suc, ◌+◌, ◌*◌, ◌-◌, ◌^◌, ◌≤◌, ◌<◌, min}
-use native.Mathlib.Nat.{add-zero, zero-add, mul_comm, mul-le-mul_right, add-mul}
-use native.Mathlib.Numerals.{add-one}
+use mathlib.Core.List.{List, ◌++◌, append-nil, append_assoc}
+use Prim.Native.Nat.{ℕ, zero, suc, ◌+◌, ◌*◌, ◌-◌, ◌≤◌, ◌<◌, min}
+use native.Mathlib.Nat.{add-zero, mul_comm, mul-le-mul_right, add-mul}
 use native.Mathlib.Omega.{arith}
 use lib.ListN.{length, replicate, length-replicate}
 use lib.Dec.{ltb}
@@ -20,8 +19,8 @@ use Rattle.utils.proofs.Pieces.{length_numbers}
 use Rattle.columnar.specs.Types.{Number, width, fixed, t_plain, t_run_end}
 use Rattle.columnar.specs.RunEnd.{end_of, first_above}
 use Rattle.columnar.specs.Reading.{Column, Source}
-use Rattle.walk.specs.State.{rows, add_rows, far, grown}
-use Rattle.walk.specs.Log.{put, mask, start_of, Out, done, wrote, next, Did}
+use Rattle.walk.specs.State.{rows, add_rows, far}
+use Rattle.walk.specs.Log.{put, mask, start_of, done, wrote, next, Did}
 use Rattle.walk.proofs.Laws.{done_did, wrote_did, next_ok}
 use Rattle.refinement.specs.walk_is_model.Holds.{flag}
 use Rattle.refinement.proofs.walk_is_model.Counters.{grown_is}
@@ -31,7 +30,7 @@ use Rattle.anew.specs.runs.Picked.{cell, cells}
 use Rattle.anew.specs.runs.Coding.{run_at}
 use Rattle.anew.proofs.runs.Fewest.{run_there}
 use Rattle.coding.specs.run_walks.Expand.{stretch, fill_bits, fill, expand_from, expand_walk}
-use Rattle.coding.specs.run_coding.Rows.{as_bit, cell_of, number_in, valid_in}
+use Rattle.coding.specs.run_coding.Rows.{cell_of, number_in, valid_in}
 use Rattle.coding.specs.run_coding.Writes.{Holds, bits_written, rows_written, end_in, left, rows_from}
 use Rattle.coding.specs.Counted.{row_counts}
 use Rattle.coding.proofs.Walked.{put_in, mask_in_lem}

@@ -1,8 +1,8 @@
 -- What each return of the expansion's own tests, of its question and of its call answers. Assumes nothing.
 use mathlib.Core.Path.{◌≡◌, refl, sym, ap, subst, ◌∙◌}
-use mathlib.Core.Bool.{Bool, true, false, not, cond, ◌&&◌}
+use mathlib.Core.Bool.{Bool, true, false, not}
 use mathlib.Core.List.{List, []}
-use Prim.Native.Nat.{ℕ, zero, suc, ◌+◌, ◌*◌, ◌-◌, ◌≤◌, ◌<◌, ◌^◌}
+use Prim.Native.Nat.{ℕ, suc, ◌+◌, ◌*◌, ◌-◌, ◌≤◌, ◌<◌, ◌^◌}
 use native.Mathlib.Omega.{arith}
 use lib.ListN.{length, get_or}
 use Rattle.schema.specs.formats.Code.{is_run_end, width_of}
@@ -17,13 +17,12 @@ use Rattle.walk.specs.State as words
 use Rattle.anew.specs.Anew.{ahead, room_ground}
 use Rattle.anew.proofs.result_plan.Answered.{before_walk}
 use Rattle.coding.proofs.run_walks.Plans.{RowsPlan, rows_plan}
-use Rattle.coding.specs.run_coding.Writes.{Holds}
 use Rattle.coding.specs.Counted.{row_counts}
 use Rattle.coding.specs.Encode.{plain_at}
 use Rattle.coding.specs.Expand.{value_number, runs_of_plain, plain_over, expand_own, expand_keeps, expand_plan, expand_out, RowsFit}
 use Rattle.coding.proofs.Tests.{no_by, yes_by}
 use Rattle.coding.proofs.Expanded.{own, type_is_lem, walk_done}
-use Rattle.coding.proofs.Room.{Free, room_free, numbers_fit, bits_fit}
+use Rattle.coding.proofs.Room.{room_free, numbers_fit, bits_fit}
 
 -- ---- the column
 

@@ -10,11 +10,11 @@ use Rattle.schema.specs.formats.Types.{number_of, number_or}
 use Rattle.schema.specs.Tree.{children, dictionary, bare, child_for_each, code_of, ids_of, values_shape, ends_shape, leaf_shape, keys_shape, list_shape, union_shape, run_shape, shape, typed}
 use Rattle.schema.proofs.Known.{typed_shape}
 use Rattle.array_data.proofs.type_tree.ByKind.{ty_as, type_by_lem}
-use Rattle.array_data.specs.NodeKinds.{NodeKind, fixed_node, string_node, view_node, list_view_node, list_node, sparse_node, dense_node, run_end_node, dictionary_node, kind_of, kind_at}
+use Rattle.array_data.specs.NodeKinds.{NodeKind, fixed_node, string_node, view_node, list_view_node, list_node, sparse_node, dense_node, run_end_node, dictionary_node, kind_at}
 use Rattle.array_data.specs.Typed.{Tree}
 use Rattle.array_data.specs.type_tree.Lent.{tree_of, ty_of, type_of}
 use Rattle.array_data.proofs.type_tree.Shaped.{five, integer_fixed, at_run}
-use Rattle.array_data.proofs.lent_tables.Laws.{and_left, and_right}
+use Rattle.array_data.proofs.lent_tables.Laws.{and_left}
 use Rattle.aggregates.proofs.Types.{run_over}
 use Rattle.coding.specs.Encode.{plain_at}
 use Rattle.coding.specs.Expand.{runs_of_plain}

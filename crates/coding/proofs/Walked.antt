@@ -1,13 +1,12 @@
 -- What the encoder's loop writes is what its walk writes: for a room in which the runs fit. Assumes nothing.
-use mathlib.Core.Path.{◌≡◌, refl, sym, ap, ap₂, subst, ◌∙◌}
-use mathlib.Core.Bool.{Bool, true, false, not, cond, ◌||◌}
+use mathlib.Core.Path.{◌≡◌, refl, sym, ap, subst, ◌∙◌}
+use mathlib.Core.Bool.{Bool, true, false, cond}
 use mathlib.Core.List.{List, [], ◌∷◌}
-use Prim.Native.Nat.{ℕ, zero, suc, ◌+◌, ◌*◌, ◌-◌, ◌^◌, ◌≤◌, ◌<◌}
+use Prim.Native.Nat.{ℕ, zero, suc, ◌+◌, ◌*◌, ◌≤◌, ◌<◌}
 use native.Mathlib.Nat.{add-zero, zero-add}
 use native.Mathlib.Numerals.{add-one}
 use native.Mathlib.Omega.{arith}
-use lib.ListN.{length, replicate, length-replicate}
-use lib.Dec.{leb, ltb, eqb}
+use lib.ListN.{length, replicate}
 use borrow.Author.Tests.{le-leb}
 use Rattle.number.specs.Number.{encode, splice}
 use Rattle.number.proofs.Laws.{length_encode, length_splice}
@@ -16,9 +15,8 @@ use Rattle.bits.proofs.Laws.{below_replicate}
 use Rattle.bits.proofs.Puts.{length_put}
 use Rattle.columnar.specs.Types.{Number, width, fixed, t_plain}
 use Rattle.columnar.specs.Reading.{Column}
-use Rattle.columnar.proofs.Items.{entry_end}
 use Rattle.walk.specs.State.{rows, add_rows, far, grown}
-use Rattle.walk.specs.Log.{Entry, put, mask, start_of, in_room, enter, apply, apply_if, Out, done, wrote, next, each, Did}
+use Rattle.walk.specs.Log.{put, mask, start_of, in_room, enter, apply, apply_if, done, wrote, each, Did}
 use Rattle.walk.proofs.Laws.{done_did, wrote_did, next_ok, each_none, each_more}
 use Rattle.refinement.specs.walk_is_model.Holds.{flag}
 use Rattle.refinement.proofs.walk_is_model.Counters.{grown_is}
@@ -26,7 +24,7 @@ use Rattle.anew.specs.runs.Runs.{ok_at, those, edge}
 use Rattle.anew.specs.runs.Picked.{cell}
 use Rattle.anew.proofs.runs.Those.{those_few}
 use Rattle.coding.specs.run_walks.Encode.{emit_bit, emit, encode_row, encode_walk}
-use Rattle.coding.specs.run_coding.Rows.{as_bit, cell_of, number_in, valid_in, last_in, last_rows}
+use Rattle.coding.specs.run_coding.Rows.{cell_of, number_in, valid_in, last_in}
 use Rattle.coding.specs.run_coding.Writes.{Fits, bits_written, run_written, runs_written}
 use Rattle.coding.proofs.run_coding.Laws.{fewer_fit}
 use Rattle.coding.specs.Counted.{run_counts, all_counts}

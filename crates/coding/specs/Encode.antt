@@ -1,6 +1,6 @@
 -- The encoder on lent memory (02, W1): "an encoder from any fixed-width column to a run-end column". Assumes nothing.
-use Rattle.std.specs.Prelude.{◌≡◌, Bool, true, cond, ◌&&◌, List, [], ◌∷◌, ℕ, ◌+◌, ◌*◌, ◌-◌, ◌≤◌, ◌<◌, ◌^◌, length, replicate, ltb, eqb}
-use Rattle.columnar.specs.Types.{Number, width, half, fixed, t_plain}
+use Rattle.std.specs.Prelude.{Bool, true, cond, ◌&&◌, List, [], ◌∷◌, ℕ, ◌+◌, ◌*◌, ◌-◌, ◌≤◌, ◌<◌, ◌^◌, length, replicate, ltb, eqb}
+use Rattle.columnar.specs.Types.{Number, half, fixed, t_plain}
 use Rattle.columnar.specs.Reading.{Column}
 use Rattle.schema.specs.formats.Code.{is_fixed, is_run_end, width_of}
 use Rattle.schema.specs.formats.Types.{number_of, number_or}

@@ -1,6 +1,6 @@
 -- The expansion on lent memory (02, W1): "and the expansion back". Assumes nothing.
-use Rattle.std.specs.Prelude.{◌≡◌, Bool, true, cond, ◌&&◌, List, [], ◌∷◌, ℕ, ◌+◌, ◌*◌, ◌-◌, ◌≤◌, ◌<◌, ◌^◌, length, replicate, eqb}
-use Rattle.columnar.specs.Types.{Number, width, fixed, t_plain, t_run_end}
+use Rattle.std.specs.Prelude.{Bool, true, cond, ◌&&◌, List, [], ◌∷◌, ℕ, ◌+◌, ◌*◌, ◌-◌, ◌≤◌, ◌<◌, ◌^◌, length, replicate, eqb}
+use Rattle.columnar.specs.Types.{Number, fixed, t_plain, t_run_end}
 use Rattle.columnar.specs.Reading.{Column}
 use Rattle.schema.specs.formats.Code.{is_run_end, width_of}
 use Rattle.schema.specs.formats.Types.{number_of, number_or}

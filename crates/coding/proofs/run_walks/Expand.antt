@@ -1,8 +1,8 @@
 -- What the walk of the expansion leaves: the expanded column stands, and only buffers of its node are written. Assumes nothing.
 use mathlib.Core.Path.{◌≡◌, refl, sym, ap, ap₂, subst, ◌∙◌}
 use mathlib.Core.Bool.{Bool, true, false, cond}
-use mathlib.Core.List.{List, [], ◌∷◌, ◌++◌, map, map-append}
-use Prim.Native.Nat.{ℕ, zero, suc, ◌+◌, ◌*◌, ◌-◌, ◌≤◌, ◌<◌, min}
+use mathlib.Core.List.{List, ◌∷◌, ◌++◌, map, map-append}
+use Prim.Native.Nat.{ℕ, zero, suc, ◌+◌, ◌*◌, ◌≤◌, ◌<◌}
 use native.Mathlib.Nat.{add-zero}
 use native.Mathlib.Omega.{arith}
 use lib.ListN.{length, replicate, length-append, length-map, length-replicate}
@@ -11,7 +11,6 @@ use borrow.Author.Tests.{lt-ltb, ltb-true, ltb-false}
 use Rattle.columnar.specs.Row.{seg}
 use Rattle.columnar.specs.Types.{Number, width, fixed, t_plain, t_run_end}
 use Rattle.columnar.specs.Array.{null_count_of}
-use Rattle.columnar.specs.Plain.{stored}
 use Rattle.columnar.specs.RunEnd.{end_of}
 use Rattle.columnar.specs.Reading.{Column, Source}
 use Rattle.model.proofs.Bits.{length_seg}

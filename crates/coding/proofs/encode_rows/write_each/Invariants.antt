@@ -1,5 +1,5 @@
 use mathlib.Core.Path.{◌≡◌}
-use Prim.Native.Nat.{◌-◌, ◌≤◌, ◌<◌}
+use Prim.Native.Nat.{◌≤◌}
 use lib.ListN.{length}
 use Rattle.anew.specs.runs.Runs.{those}
 use Rattle.coding.specs.run_coding.Rows.{number_in, valid_in, change_in}

@@ -1,6 +1,4 @@
 use mathlib.Core.Path.{◌≡◌}
-use Prim.Native.Nat.{◌≤◌, ◌-◌}
-use lib.ListN.{length}
 use Rattle.number.specs.Number.{splice}
 use Rattle.utils.specs.Offsets.{repeated}
 use Rattle.coding.proofs.expand_rows.fill.Given as goal

@@ -1,8 +1,7 @@
 -- `coding::row_plan::write_words` meets its contract. Assumes nothing.
-use mathlib.Core.Path.{◌≡◌, ap, ◌∙◌}
+use mathlib.Core.Path.{ap, ◌∙◌}
 use Prim.Native.Nat.{◌+◌}
-use native.Mathlib.Omega.{arith}
-use lib.ListN.{length, set, replicate, length-set}
+use lib.ListN.{set, replicate}
 use Rattle.coding.proofs.row_plan.write_words.Goals as goal
 
 pub returns : goal.returns
