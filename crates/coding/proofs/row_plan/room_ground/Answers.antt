@@ -1,5 +1,4 @@
 -- `coding::row_plan::room_ground` meets its contract. Assumes nothing.
-use native.Mathlib.Omega.{arith}
 use Rattle.coding.proofs.RowRoom.{other_plan, other_counters, placed_not, held_not, held}
 use Rattle.coding.proofs.row_plan.room_ground.Goals as goal
 

@@ -1,5 +1,4 @@
 -- `coding::row_plan::rows_hold` meets its contract. Assumes nothing.
-use native.Mathlib.Omega.{arith}
 use Rattle.coding.proofs.RowRoom.{hold_none, hold_plain, hold_bits}
 use Rattle.coding.proofs.row_plan.rows_hold.Goals as goal
 
