@@ -16,9 +16,6 @@ use Rattle.coding.proofs.encode.planned.Goals as goal
 words_as : {a b c d e f a' b' c' d' e' f' : ℕ} {r : List ℕ} → r ≡ run_plan a b c d e f → a ≡ a' → b ≡ b' → c ≡ c' → d ≡ d' → e ≡ e' → f ≡ f' → r ≡ run_plan a' b' c' d' e' f'
 words_as h p q s t u v = h ∙ rw (p, q, s, t, u, v) refl
 
-pub null_word-k-requires : goal.null_word-k-requires
-null_word-k-requires c = c.requires.comes
-
 pub run_words-requires : goal.run_words-requires
 run_words-requires c = c.null_word-k.ensures.upper_bound
 

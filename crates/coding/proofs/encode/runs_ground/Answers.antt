@@ -24,9 +24,6 @@ returns-then-room_ground-eq0 c =
     ground_less m _ few z.plan.now z.parts.now z.words z.counters z.size
     (ap (λ q. room_ground z.plan.now q z.parts.now z.words z.counters z.size) (sym c.counters_of-most.ensures) ∙ sym c.room_ground.ensures ∙ c.if-room_ground-eq0.true)
 
-pub tried-tally-requires : goal.tried-tally-requires
-tried-tally-requires c = c.requires
-
 pub returns : goal.returns
 returns c =
     let z = c.args in

@@ -42,9 +42,6 @@ is_valid-b-requires g c =
     let z = c.args in
     bit_held z.body.now g.N.Unsigned.SIZE z.masked z.s.start z.s.mask z.s.bit z.m c.requires.1 c.loop-r.r c.loop-r-test.true
 
-pub overflow_sub-r : goal.overflow_sub-r
-overflow_sub-r g c = omega arith
-
 pub number_at-x-requires : goal.number_at-x-requires
 number_at-x-requires g c =
     let z = c.args in

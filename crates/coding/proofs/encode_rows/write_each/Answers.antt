@@ -95,9 +95,6 @@ write_run-requires g c =
     let f = one_fits z.body.now g.N.Unsigned.SIZE z.masked z.s.start z.s.mask z.s.bit z.e z.t.ends z.t.values z.t.mask (length z.room.now) z.m l.k l.r (omega arith) l.invariant.3 c.requires.fits in
     (c.requires.le_m.2, rw c.loop-r.auto.room f, omega arith)
 
-pub overflow_add-k : goal.overflow_add-k
-overflow_add-k g c = omega arith
-
 pub loop-r-preserved : goal.loop-r-preserved
 loop-r-preserved g c =
     let z = c.args in
@@ -121,9 +118,6 @@ write_run-requires-2 g c =
 
 pub overflow_add-result : goal.overflow_add-result
 overflow_add-result g c = let l = c.loop-r in omega arith
-
-pub shape_of-room : goal.shape_of-room
-shape_of-room g c = omega arith
 
 pub returns : goal.returns
 returns g c =

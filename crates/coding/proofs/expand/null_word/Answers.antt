@@ -6,9 +6,6 @@ use Rattle.anew.proofs.result_plan.Laws.{countable_by, null_off, null_on}
 use Rattle.coding.specs.Expand.{from_values}
 use Rattle.coding.proofs.expand.null_word.Goals as goal
 
-pub overflow_add-first : goal.overflow_add-first
-overflow_add-first c = omega arith
-
 pub null_count-requires : goal.null_count-requires
 null_count-requires c =
     let z = c.args in

@@ -13,9 +13,6 @@ use Rattle.coding.proofs.expand.row_of.Goals as goal
 words_as : {a b c d e f : ℕ} → a ≡ d → b ≡ e → c ≡ f → row_plan_of a b c ≡ row_plan_of d e f
 words_as p q s = rw (p, q, s)
 
-pub null_word-nulls-requires : goal.null_word-nulls-requires
-null_word-nulls-requires c = c.requires.comes
-
 pub returns : goal.returns
 returns c =
     let z = c.args in

@@ -34,9 +34,6 @@ loop-i-preserved g c =
     let z = inside g.N.Unsigned.SIZE l.i a.n c.loop-i-test.true in
     cc (repeated_step g.N.Unsigned.SIZE a.v a.room.now a.at l.i (omega (arith, z, more g.N.Unsigned.SIZE l.i, c.requires)))
 
-pub shape_of-room : goal.shape_of-room
-shape_of-room g c = omega arith
-
 pub returns : goal.returns
 returns g c =
     let e : c.loop-i.i ≡ c.args.n = omega arith in

@@ -10,9 +10,6 @@ pub fill-requires-2 : goal.fill-requires-2
 fill-requires-2 g c =
     (omega (arith, c.requires, scale_le g.N.Unsigned.SIZE 4 c.args.n c.if-n-lt4.false))
 
-pub overflow_sub-i : goal.overflow_sub-i
-overflow_sub-i g c = omega arith
-
 pub loop-i-init : goal.loop-i-init
 loop-i-init g c =
     let z : length c.fill-2.new.room ≡ length c.args.room.now = omega arith in

@@ -1,5 +1,4 @@
 -- `coding::row_plan::room_ground` meets its contract. Assumes nothing.
-use native.Mathlib.Omega.{arith}
 use Rattle.coding.proofs.RowRoom.{other_plan, other_counters, placed_not, held_not, held}
 use Rattle.coding.proofs.row_plan.room_ground.Goals as goal
 
@@ -12,12 +11,6 @@ pub returns-then-counters-ne-COUNTERS : goal.returns-then-counters-ne-COUNTERS
 returns-then-counters-ne-COUNTERS c =
     let z = c.args in
     other_counters z.row.code z.row.nullable z.m z.parts.now c.requires.1 z.row.nulls c.requires.0 z.words z.counters z.size c.if-counters-ne-COUNTERS.true
-
-pub overflow_add-row : goal.overflow_add-row
-overflow_add-row c = omega arith
-
-pub parts_placed-requires : goal.parts_placed-requires
-parts_placed-requires c = omega arith
 
 pub returns-then-not-parts_placed : goal.returns-then-not-parts_placed
 returns-then-not-parts_placed c =

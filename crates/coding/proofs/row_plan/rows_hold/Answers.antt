@@ -1,13 +1,6 @@
 -- `coding::row_plan::rows_hold` meets its contract. Assumes nothing.
-use native.Mathlib.Omega.{arith}
 use Rattle.coding.proofs.RowRoom.{hold_none, hold_plain, hold_bits}
 use Rattle.coding.proofs.row_plan.rows_hold.Goals as goal
-
-pub overflow_mul-k : goal.overflow_mul-k
-overflow_mul-k c = omega arith
-
-pub overflow_add-k : goal.overflow_add-k
-overflow_add-k c = omega arith
 
 pub returns-then-not-rows_fit : goal.returns-then-not-rows_fit
 returns-then-not-rows_fit c =
