@@ -20,26 +20,14 @@ const TOO_SMALL: u8 = 13;
 fn times(r: u64, w: u8) -> u64
     ensures { result ≡ min (r * w) top }
 {
-    if w == 0 {
-        return 0;
-    }
-    if u64::MAX / (w as u64) < r {
-        return u64::MAX;
-    }
-    r * (w as u64)
+    r.saturating_mul(w as u64)
 }
 
 // One entry of w bytes more than r, or the largest number of 64 bits.
 fn times_more(r: u64, w: u8) -> u64
     ensures { result ≡ min ((r + 1) * w) top }
 {
-    if w == 0 {
-        return 0;
-    }
-    if u64::MAX / (w as u64) <= r {
-        return u64::MAX;
-    }
-    (r + 1) * (w as u64)
+    times(r, w).saturating_add(w as u64)
 }
 
 // The bytes of r + n bits.
