@@ -49,9 +49,17 @@ key_100 = refl
 
 -- ---- the path of signed keys
 
--- THE ONE LAW of both paths: a signed key k, plus base by the helper, has the pattern that the unsigned path writes
-pub same_pattern : (w : ℕ) (key base p : ℕ) (k offset sum : ℤ) → key < 256 ^ w → base < 256 ^ w → k ≡ signed w key → offset ≡ signed w base
+-- THE ONE LAW of both paths: a signed key k, plus any number by the helper, has the pattern that the unsigned path writes for that number's pattern
+pub same_pattern : (w key p : ℕ) (k sum base : ℤ) → key < 256 ^ w → k ≡ signed w key → sum ≡ wrapping_add w k base → p ≡ pattern w sum
+    → p ≡ (key + pattern w base) % 256 ^ w
+same_pattern w key p k sum base f ek es ep =
+    let r = (key + pattern w base) % 256 ^ w in
+    let e : sum ≡ signed w r = rw (es, ek, pattern_signed w key f) refl in
+    rw (ep, e) (pattern_signed w r (mod-lt (key + pattern w base) (one-le-pow w 256 (omega arith))))
+
+-- .. for a number that is given by its pattern
+pub same_pattern_of : (w : ℕ) (key base p : ℕ) (k offset sum : ℤ) → key < 256 ^ w → base < 256 ^ w → k ≡ signed w key → offset ≡ signed w base
     → sum ≡ wrapping_add w k offset → p ≡ pattern w sum → p ≡ (key + base) % 256 ^ w
-same_pattern w key base p k offset sum f g ek eo es ep =
-    let e : sum ≡ signed w ((key + base) % 256 ^ w) = rw (es, ek, eo) (sym (rebase_signed w key base f g)) in
-    rw (ep, e) (pattern_signed w ((key + base) % 256 ^ w) (mod-lt (key + base) (one-le-pow w 256 (omega arith))))
+same_pattern_of w key base p k offset sum f g ek eo es ep =
+    let e : pattern w offset ≡ base = rw eo (pattern_signed w base g) in
+    rw e at (same_pattern w key p k sum offset f ek es ep)
