@@ -2,13 +2,13 @@
 use Rattle.std.proofs.Common.{◌≡◌, ℕ, suc, ◌+◌, ◌-◌, ◌*◌, ◌%◌, ◌^◌, ◌<◌, ◌≤◌, Bool, true, false, ◌&&◌, T, ltb, leb, refl, ◌∙◌, ⊎_elim, eq-or-lt_of_le, arith, le→leb, ltb→lt, lt→ltb, leb→le, ltb-true, ltb-false}
 use Rattle.std.proofs.Math.Nat.{mod-eq_of_lt, mod-lt, add-mod_left}
 use Rattle.std.proofs.lemmas.Nat.{or_lt, le_or_l, le_or_r}
-use Rattle.std.specs.Prelude.{bit_or}
+use Rattle.std.specs.Prelude.{bit_or, min}
 use Rattle.number.specs.Sizes.{Sized}
 use Rattle.columnar.specs.Types.{half}
 use Rattle.columnar.specs.Test.{every}
 use Rattle.columnar.proofs.Test.{every_out, every_in}
 use Rattle.row_rules.specs.Rules.{never_falls_lem, view_row}
-use Rattle.row_rules.proofs.Sizes.{half_bits, whole_bits, two_halves, half_some, none_is}
+use Rattle.row_rules.proofs.Sizes.{half_bits, whole_bits, two_halves, half_some, ones_is, none_is}
 
 -- ---- tests
 
@@ -82,6 +82,18 @@ module _ {w : ℕ} (s : Sized w) where
             let m : d ≡ b + (256 ^ w - a) = e ∙ mod-eq_of_lt (omega arith) in
             absurd (omega (arith, two_halves s))
         go false k p q = ltb-false b a k
+
+  -- the largest number less x, and so many rows or as many
+  pub not_is : {m x r : ℕ} → m ≡ 18446744073709551615 % 256 ^ w → Fits x → r ≡ (m + (256 ^ w - x)) % 256 ^ w → r ≡ 256 ^ w - 1 - x
+  not_is {m} {x} {r} e f g =
+      let q : m ≡ 256 ^ w - 1 = e ∙ ones_is s in
+      less_is x (256 ^ w - 1) (rw q at g) f (omega (arith, two_halves s, half_some s)) (omega arith)
+
+  pub capped_is : {m k r : ℕ} (rows : ℕ) → m ≡ 18446744073709551615 % 256 ^ w → k ≡ min rows m → r ≡ k % 256 ^ w → r ≡ min rows (256 ^ w - 1)
+  capped_is {m} {k} {r} rows e f g =
+      let q : m ≡ 256 ^ w - 1 = e ∙ ones_is s in
+      let n : k ≡ min rows (256 ^ w - 1) = rw q at f in
+      g ∙ mod-eq_of_lt (omega (arith, n, two_halves s, half_some s)) ∙ n
 
   -- ---- rows that are tested one by one
 
@@ -181,6 +193,31 @@ module _ {w : ℕ} (s : Sized w) where
 
   -- ---- a row of a list-view
 
+  -- a number that is Low exactly where the row obeys
+  row_told : (child o z : ℕ) {all : ℕ} → (Low all → Low o × Low z × (o + z ≤ child)) → (Low o → Low z → o + z ≤ child → Low all)
+      → ltb all (half w) ≡ view_row w child o z
+  unfolding view_row
+  row_told child o z {all} to from =
+      same _ _
+      (λ t. let q = to (ltb→lt all (half w) t) in
+      two (ltb o (half w) && ltb z (half w)) (leb (o + z) child) (two (ltb o (half w)) (ltb z (half w)) (lt→ltb o (half w) q.0) (lt→ltb z (half w) q.1)) (le→leb (o + z) child q.2))
+      (λ t. let both = first (ltb o (half w) && ltb z (half w)) (leb (o + z) child) t in
+      lt→ltb all (half w) (from (ltb→lt o (half w) (first (ltb o (half w)) (ltb z (half w)) both)) (ltb→lt z (half w) (second (ltb o (half w)) (ltb z (half w)) both)) (leb→le (o + z) child (second (ltb o (half w) && ltb z (half w)) (leb (o + z) child) t))))
+
+  -- a child of more rows than w bytes count has those of any offset and size
+  pub capped_row : (child most o z : ℕ) → half w ≤ child → most ≡ min child (256 ^ w - 1) → view_row w most o z ≡ view_row w child o z
+  unfolding view_row
+  capped_row child most o z h e =
+      same _ _ (λ t. over t (λ a b l. omega (arith, e)))
+      (λ t. over t (λ a b l. omega (arith, e, a, b, two_halves s)))
+    where
+      over : {a b : ℕ} → T (ltb o (half w) && ltb z (half w) && leb (o + z) a) → (Low o → Low z → o + z ≤ a → o + z ≤ b) → T (ltb o (half w) && ltb z (half w) && leb (o + z) b)
+      over {a} {b} t f =
+          let p = first (ltb o (half w) && ltb z (half w)) (leb (o + z) a) t in
+          let l = ltb→lt o (half w) (first (ltb o (half w)) (ltb z (half w)) p) in
+          let m = ltb→lt z (half w) (second (ltb o (half w)) (ltb z (half w)) p) in
+          two (ltb o (half w) && ltb z (half w)) (leb (o + z) b) p (le→leb (o + z) b (f l m (leb→le (o + z) a (second (ltb o (half w) && ltb z (half w)) (leb (o + z) a) t))))
+
   -- what is left of the child behind the offset, and behind the size
   module _ (child o z : ℕ) {left rest front behind all : ℕ} (h : Low child) (f : Fits o) (g : Fits z)
       (x : left ≡ (child + (256 ^ w - o)) % 256 ^ w) (y : rest ≡ (left + (256 ^ w - z)) % 256 ^ w)
@@ -222,10 +259,87 @@ module _ {w : ℕ} (s : Sized w) where
         both_low front behind e front_fits behind_fits (both_low o z u f g a b) (both_low left rest v left_fits rest_fits (omega (arith, l)) (omega (arith, l, r)))
 
     pub view_gathered : ltb all (half w) ≡ view_row w child o z
-    unfolding view_row
-    view_gathered =
-        same _ _
-        (λ t. let q = to_row (ltb→lt all (half w) t) in
-        two (ltb o (half w) && ltb z (half w)) (leb (o + z) child) (two (ltb o (half w)) (ltb z (half w)) (lt→ltb o (half w) q.0) (lt→ltb z (half w) q.1)) (le→leb (o + z) child q.2))
-        (λ t. let both = first (ltb o (half w) && ltb z (half w)) (leb (o + z) child) t in
-        lt→ltb all (half w) (from_row (ltb→lt o (half w) (first (ltb o (half w)) (ltb z (half w)) both)) (ltb→lt z (half w) (second (ltb o (half w)) (ltb z (half w)) both)) (leb→le (o + z) child (second (ltb o (half w) && ltb z (half w)) (leb (o + z) child) t))))
+    view_gathered = row_told child o z to_row from_row
+
+  -- ---- a row of a list-view over a child whose rows are not Low
+
+  -- the other bits
+  module _ (x : ℕ) {r : ℕ} (h : Fits x) (e : r ≡ 256 ^ w - 1 - x) where
+    not_fits : Fits r
+    not_fits = omega (arith, e, two_halves s, half_some s)
+
+    not_low : half w ≤ x → Low r
+    not_low l = omega (arith, e, two_halves s)
+
+    not_high : Low r → half w ≤ x
+    not_high l = omega (arith, e, two_halves s)
+
+  module _ (child o z : ℕ) {left rest other some none front all : ℕ} (h : half w ≤ child) (k : Fits child) (f : Fits o) (g : Fits z)
+      (x : left ≡ (child + (256 ^ w - o)) % 256 ^ w) (y : rest ≡ (left + (256 ^ w - z)) % 256 ^ w) (n : other ≡ 256 ^ w - 1 - rest)
+      (u : some ≡ bit_or left other % 256 ^ w) (m : none ≡ 256 ^ w - 1 - some) (v : front ≡ bit_or o z % 256 ^ w)
+      (e : all ≡ bit_or front none % 256 ^ w) where
+    far_left_fits : Fits left
+    far_left_fits = less_fits o child x f k
+
+    pub far_rest_fits : Fits rest
+    far_rest_fits = less_fits z left y g far_left_fits
+
+    other_fits : Fits other
+    other_fits = not_fits rest far_rest_fits n
+
+    pub some_fits : Fits some
+    some_fits = both_fits left other u far_left_fits other_fits
+
+    none_fits : Fits none
+    none_fits = not_fits some some_fits m
+
+    far_front_fits : Fits front
+    far_front_fits = both_fits o z v f g
+
+    pub far_fits : Fits all
+    far_fits = both_fits front none e far_front_fits none_fits
+
+    -- what is left reaches the size: it is not Low, or still there behind the size
+    reaches : Low z → half w ≤ some → z ≤ left
+    reaches b p = go (ltb left (half w)) refl (ltb other (half w)) refl
+      where
+        go : (t : Bool) → ltb left (half w) ≡ t → (q : Bool) → ltb other (half w) ≡ q → z ≤ left
+        go false i q j = let l : half w ≤ left = ltb-false left (half w) i in omega arith
+        go true i true j =
+            let l : Low some = both_low left other u far_left_fits other_fits (ltb-true left (half w) i) (ltb-true other (half w) j) in
+            absurd (omega arith)
+        go true i false j =
+            let r : half w ≤ other = ltb-false other (half w) j in
+            let c : Low rest = omega (arith, n, two_halves s) in
+            less_under z left y g far_left_fits b c
+
+    has_some : Low z → z ≤ left → half w ≤ some
+    has_some b l = go (ltb some (half w)) refl
+      where
+        go : (t : Bool) → ltb some (half w) ≡ t → half w ≤ some
+        go false i = ltb-false some (half w) i
+        go true i =
+            let q : Low some = ltb-true some (half w) i in
+            let a : Low left = both_left left other u far_left_fits other_fits q in
+            let c : Low other = both_right left other u far_left_fits other_fits q in
+            let d : rest ≡ left - z = less_is z left y g far_left_fits l in
+            absurd (omega (arith, d, n, two_halves s, a, c))
+
+    to_far_row : Low all → Low o × Low z × (o + z ≤ child)
+    to_far_row q =
+        let q1 = both_left front none e far_front_fits none_fits q in
+        let q2 = both_right front none e far_front_fits none_fits q in
+        let a = both_left o z v f g q1 in
+        let b = both_right o z v f g q1 in
+        let d : left ≡ child - o = less_is o child x f k (omega arith) in
+        let c : z ≤ left = reaches b (not_high some some_fits m q2) in
+        (a, b, omega (arith, c, d, a, h))
+
+    from_far_row : Low o → Low z → o + z ≤ child → Low all
+    from_far_row a b c =
+        let d : left ≡ child - o = less_is o child x f k (omega arith) in
+        both_low front none e far_front_fits none_fits (both_low o z v f g a b)
+        (not_low some some_fits m (has_some b (omega (arith, d))))
+
+    pub far_gathered : ltb all (half w) ≡ view_row w child o z
+    far_gathered = row_told child o z to_far_row from_far_row

@@ -38,6 +38,9 @@ module _ {w : ℕ} (s : Sized w) where
   pub shifted : {k : ℕ} → k ≡ w → 1 * 2 ^ (8 * k - 1) % 18446744073709551616 ≡ half w
   shifted e = rw e (by_size (λ w. 1 * 2 ^ (8 * w - 1) % 18446744073709551616 ≡ half w) refl refl refl refl refl refl refl refl w s.some s.eight)
 
+  pub ones_is : 18446744073709551615 % 256 ^ w ≡ 256 ^ w - 1
+  ones_is = by_size (λ w. 18446744073709551615 % 256 ^ w ≡ 256 ^ w - 1) refl refl refl refl refl refl refl refl w s.some s.eight
+
   pub none_is : {k : ℕ} → k ≡ 0 % 256 ^ w → k ≡ 0
   none_is e = e ∙ mod-eq_of_lt (omega (arith, two_halves, half_some))
 

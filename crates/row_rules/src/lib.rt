@@ -4,7 +4,7 @@
 
 pub mod slots;
 
-ghost use Rattle.std.specs.Prelude.{◌≡◌, ◌+◌, ◌*◌, ◌%◌, ◌^◌, ◌<◌, ◌≤◌, length, nat_lt, bit_or};
+ghost use Rattle.std.specs.Prelude.{◌≡◌, ◌+◌, ◌-◌, ◌*◌, ◌%◌, ◌^◌, ◌<◌, ◌≤◌, length, min, nat_lt, bit_or};
 ghost use Rattle.columnar.specs.Types.{half};
 ghost use Rattle.row_rules.specs.Rules.{offsets_rows, view_row, list_view_rows, ends_rows};
 
@@ -39,34 +39,6 @@ pub fn offsets<N: Unsigned>(body: &[u8], at: usize, n: usize) -> bool
     all.to_u64() < half::<N>()
 }
 
-// Whether offset and size are not negative and the rows that they name lie in a child of `child` rows.
-fn view_row<N: Unsigned>(o: N, z: N, child: u64) -> bool
-    ensures { result ≡ view_row N.SIZE child (N.amount o) (N.amount z) }
-{
-    if half::<N>() <= o.to_u64() {
-        return false;
-    }
-    if half::<N>() <= z.to_u64() {
-        return false;
-    }
-    o.to_u64() + z.to_u64() <= child
-}
-
-// Whether n list-view rows obey, with offsets from `at` on and sizes from `too` on, over a child of `child` rows. Row by row.
-fn views_row_by_row<N: Unsigned>(body: &[u8], at: usize, too: usize, n: usize, child: u64) -> bool
-    requires { (at + N.SIZE * n ≤ length body.now) × (too + N.SIZE * n ≤ length body.now) }
-    ensures { result ≡ list_view_rows N.SIZE body.now at too child n }
-{
-    for i in 0..n {
-        let o = N::read(body, at + N::SIZE * i);
-        let z = N::read(body, too + N::SIZE * i);
-        if !view_row(o, z, child) {
-            return false;
-        }
-    }
-    true
-}
-
 // A number with its highest bit 0 where the row obeys: those of the offset, the size, and what is left behind each of them.
 fn view_bits<N: Unsigned>(o: N, z: N, child: N) -> N
     requires { (N.amount o < 256 ^ N.SIZE) × (N.amount z < 256 ^ N.SIZE) × (N.amount child < half N.SIZE) }
@@ -91,6 +63,47 @@ fn views_at_once<N: Unsigned>(body: &[u8], at: usize, too: usize, n: usize, chil
     bits.to_u64() < half::<N>()
 }
 
+// N's number with the other bits.
+fn not<N: Unsigned>(x: N) -> N
+    requires { N.amount x < 256 ^ N.SIZE }
+    ensures { N.amount result ≡ 256 ^ N.SIZE - 1 - N.amount x }
+{
+    N::truncate(u64::MAX).wrapping_sub(x)
+}
+
+// So many rows, or as many as N counts.
+fn capped<N: Unsigned>(rows: u64) -> N
+    ensures { N.amount result ≡ min rows (256 ^ N.SIZE - 1) }
+{
+    N::truncate(rows.min(N::truncate(u64::MAX).to_u64()))
+}
+
+// The number of `view_bits` for a child whose rows are a negative number, where that is read with a sign: so may be what is left behind the
+// offset, and is then enough for any size.
+fn far_view_bits<N: Unsigned>(o: N, z: N, child: N) -> N
+    requires { (N.amount o < 256 ^ N.SIZE) × (N.amount z < 256 ^ N.SIZE) × (half N.SIZE ≤ N.amount child) × (N.amount child < 256 ^ N.SIZE) }
+    ensures gathered { nat_lt (N.amount result) (half N.SIZE) ≡ view_row N.SIZE (N.amount child) (N.amount o) (N.amount z) }
+    ensures fits { N.amount result < 256 ^ N.SIZE }
+{
+    let left = child.wrapping_sub(o);
+    both(both(o, z), not(both(left, not(left.wrapping_sub(z)))))
+}
+
+// The same as `views_at_once` of such a child. One of more rows than N counts has those of any offset and size.
+fn far_views_at_once<N: Unsigned>(body: &[u8], at: usize, too: usize, n: usize, child: u64) -> bool
+    requires { (at + N.SIZE * n ≤ length body.now) × (too + N.SIZE * n ≤ length body.now) × (half N.SIZE ≤ child) }
+    ensures { result ≡ list_view_rows N.SIZE body.now at too child n }
+{
+    let most = capped::<N>(child);
+    let mut bits = N::truncate(0);
+    for i in 0..n {
+        let o = N::read(body, at + N::SIZE * i);
+        let z = N::read(body, too + N::SIZE * i);
+        bits = both(bits, far_view_bits(o, z, most));
+    }
+    bits.to_u64() < half::<N>()
+}
+
 // Whether n list-view rows obey, with offsets from `at` on and sizes from `too` on, over a child of `child` rows.
 pub fn list_views<N: Unsigned>(body: &[u8], at: usize, too: usize, n: usize, child: u64) -> bool
     requires { (at + N.SIZE * n ≤ length body.now) × (too + N.SIZE * n ≤ length body.now) }
@@ -99,7 +112,7 @@ pub fn list_views<N: Unsigned>(body: &[u8], at: usize, too: usize, n: usize, chi
     if child < half::<N>() {
         return views_at_once(body, at, too, n, N::truncate(child));
     }
-    views_row_by_row::<N>(body, at, too, n, child)
+    far_views_at_once::<N>(body, at, too, n, child)
 }
 
 // Whether the n run ends from `at` on rise strictly from at least 1, none being negative. Read without a sign, ends that rise have no
