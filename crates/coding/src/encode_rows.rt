@@ -1,5 +1,5 @@
 // Rows into runs: only the last row of a run is written. A loop for each width, with validity and without.
-ghost use Rattle.std.specs.Prelude.{◌≡◌, true, ◌+◌, ◌*◌, ◌-◌, ◌≤◌, ◌<◌, ◌^◌, length};
+ghost use Rattle.std.specs.Prelude.{◌≡◌, true, false, ◌+◌, ◌*◌, ◌-◌, ◌≤◌, ◌<◌, ◌^◌, length};
 ghost use Rattle.clauses.specs.Slices.{was, left};
 ghost use Rattle.aggregates.specs.patterns.Parts.{Sized};
 ghost use Rattle.anew.specs.runs.Runs.{those};
@@ -86,6 +86,7 @@ fn write_run<N: Unsigned>(
 }
 
 // The runs of m rows, and how many they are.
+#[inline(always)]
 fn write_each<N: Unsigned>(
     room: &mut [u8],
     body: &[u8],
@@ -117,6 +118,42 @@ fn write_each<N: Unsigned>(
     (k + 1) as u64
 }
 
+// The same with validity. A function of its own, so that the loop has all registers.
+#[inline(never)]
+fn write_masked<N: Unsigned>(
+    room: &mut [u8],
+    body: &[u8],
+    s: Slots,
+    e: u8,
+    t: Spots,
+    m: usize,
+) -> u64
+    requires le_m { (1 ≤ m) × (m < 2 ^ 63) × Sized e × Held body.now N.SIZE true s.start s.mask s.bit m }
+    requires fits { Fits N.SIZE true e t.ends t.values t.mask (length room.old) (length (last_rows body.now N.SIZE true s.start s.mask s.bit m)) }
+    ensures room_value { room.new ≡ runs_written (was body) N.SIZE true s.start s.mask s.bit e t.ends t.values t.mask 0 (last_rows (was body) N.SIZE true s.start s.mask s.bit m) room.old }
+    ensures value { result ≡ length (last_rows (was body) N.SIZE true s.start s.mask s.bit m) }
+{
+    write_each::<N>(room, body, true, s, e, t, m)
+}
+
+// The same without, likewise.
+#[inline(never)]
+fn write_plain<N: Unsigned>(
+    room: &mut [u8],
+    body: &[u8],
+    s: Slots,
+    e: u8,
+    t: Spots,
+    m: usize,
+) -> u64
+    requires le_m { (1 ≤ m) × (m < 2 ^ 63) × Sized e × Held body.now N.SIZE false s.start s.mask s.bit m }
+    requires fits { Fits N.SIZE false e t.ends t.values t.mask (length room.old) (length (last_rows body.now N.SIZE false s.start s.mask s.bit m)) }
+    ensures room_value { room.new ≡ runs_written (was body) N.SIZE false s.start s.mask s.bit e t.ends t.values t.mask 0 (last_rows (was body) N.SIZE false s.start s.mask s.bit m) room.old }
+    ensures value { result ≡ length (last_rows (was body) N.SIZE false s.start s.mask s.bit m) }
+{
+    write_each::<N>(room, body, false, s, e, t, m)
+}
+
 // THE RUNS of m rows, and how many they are; a loop for each width, with validity and without.
 pub fn write_runs(
     room: &mut [u8],
@@ -138,16 +175,16 @@ pub fn write_runs(
     }
     if masked {
         return match w {
-            1 => write_each::<u8>(room, body, true, s, e, t, m),
-            2 => write_each::<u16>(room, body, true, s, e, t, m),
-            4 => write_each::<u32>(room, body, true, s, e, t, m),
-            _ => write_each::<u64>(room, body, true, s, e, t, m),
+            1 => write_masked::<u8>(room, body, s, e, t, m),
+            2 => write_masked::<u16>(room, body, s, e, t, m),
+            4 => write_masked::<u32>(room, body, s, e, t, m),
+            _ => write_masked::<u64>(room, body, s, e, t, m),
         };
     }
     match w {
-        1 => write_each::<u8>(room, body, false, s, e, t, m),
-        2 => write_each::<u16>(room, body, false, s, e, t, m),
-        4 => write_each::<u32>(room, body, false, s, e, t, m),
-        _ => write_each::<u64>(room, body, false, s, e, t, m),
+        1 => write_plain::<u8>(room, body, s, e, t, m),
+        2 => write_plain::<u16>(room, body, s, e, t, m),
+        4 => write_plain::<u32>(room, body, s, e, t, m),
+        _ => write_plain::<u64>(room, body, s, e, t, m),
     }
 }

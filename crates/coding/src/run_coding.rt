@@ -81,7 +81,8 @@ pub fn write_entry(room: &mut [u8], at: usize, w: u8, v: u64)
     }
 }
 
-// n equal bits from the bit k of the byte `at` on.
+// n equal bits from the bit k of the byte `at` on. Where n is 1 few steps are left of it in line.
+#[inline(always)]
 pub fn write_bits(room: &mut [u8], at: usize, k: usize, n: usize, v: bool)
     requires { 8 * at + k + n ≤ 8 * length room.old }
     ensures { room.new ≡ put_bits (8 * at + k) (replicate n (as_bit v)) room.old }

@@ -41,66 +41,66 @@ pub returns-then-m-eq0 : goal.returns-then-m-eq0
 returns-then-m-eq0 c =
     record { room_value = no_runs c.args.body.now c.args.w c.args.masked c.args.s.start c.args.s.mask c.args.s.bit c.args.e c.args.t.ends c.args.t.values c.args.t.mask c.args.m c.args.room.now c.if-m-eq0.true; value = ap (λ n. length (last_rows c.args.body.now c.args.w c.args.masked c.args.s.start c.args.s.mask c.args.s.bit n)) (sym c.if-m-eq0.true) }
 
-pub write_each-requires : goal.write_each-requires
-write_each-requires c =
-    let both = given (goal.at.write_each-requires c).Start 1 true c.if-m-eq0.false c.in-1.is c.if-masked.true in record { le_m = both.0; fits = both.1 }
+pub write_masked-requires : goal.write_masked-requires
+write_masked-requires c =
+    let both = given (goal.at.write_masked-requires c).Start 1 true c.if-m-eq0.false c.in-1.is c.if-masked.true in record { le_m = both.0; fits = both.1 }
 
-pub write_each-requires-in-2 : goal.write_each-requires-in-2
-write_each-requires-in-2 c =
-    let both = given (goal.at.write_each-requires-in-2 c).Start 2 true c.if-m-eq0.false c.in-2.is c.if-masked.true in record { le_m = both.0; fits = both.1 }
+pub write_masked-requires-in-2 : goal.write_masked-requires-in-2
+write_masked-requires-in-2 c =
+    let both = given (goal.at.write_masked-requires-in-2 c).Start 2 true c.if-m-eq0.false c.in-2.is c.if-masked.true in record { le_m = both.0; fits = both.1 }
 
-pub write_each-requires-in-4 : goal.write_each-requires-in-4
-write_each-requires-in-4 c =
-    let both = given (goal.at.write_each-requires-in-4 c).Start 4 true c.if-m-eq0.false c.in-4.is c.if-masked.true in record { le_m = both.0; fits = both.1 }
+pub write_masked-requires-in-4 : goal.write_masked-requires-in-4
+write_masked-requires-in-4 c =
+    let both = given (goal.at.write_masked-requires-in-4 c).Start 4 true c.if-m-eq0.false c.in-4.is c.if-masked.true in record { le_m = both.0; fits = both.1 }
 
-pub write_each-requires-in_default : goal.write_each-requires-in_default
-write_each-requires-in_default c =
-    let both = given (goal.at.write_each-requires-in_default c).Start 8 true c.if-m-eq0.false (let r = c.in_default.in_default-own.rest in sized (goal.at.write_each-requires-in_default c).Start r.0.0.1 r.0.1 r.1) c.if-masked.true in record { le_m = both.0; fits = both.1 }
+pub write_masked-requires-in_default : goal.write_masked-requires-in_default
+write_masked-requires-in_default c =
+    let both = given (goal.at.write_masked-requires-in_default c).Start 8 true c.if-m-eq0.false (let r = c.in_default.in_default-own.rest in sized (goal.at.write_masked-requires-in_default c).Start r.0.0.1 r.0.1 r.1) c.if-masked.true in record { le_m = both.0; fits = both.1 }
 
 pub returns-in-1 : goal.returns-in-1
 returns-in-1 c =
-    let both = whole (goal.at.returns-in-1 c).Start 1 true c.write_each.new.room c.write_each.result c.in-1.is c.if-masked.true (c.write_each.ensures.room_value, c.write_each.ensures.value) in record { room_value = both.0; value = both.1 }
+    let both = whole (goal.at.returns-in-1 c).Start 1 true c.write_masked.new.room c.write_masked.result c.in-1.is c.if-masked.true (c.write_masked.ensures.room_value, c.write_masked.ensures.value) in record { room_value = both.0; value = both.1 }
 
 pub returns-in-2 : goal.returns-in-2
 returns-in-2 c =
-    let both = whole (goal.at.returns-in-2 c).Start 2 true c.write_each-in-2.new.room c.write_each-in-2.result c.in-2.is c.if-masked.true (c.write_each-in-2.ensures.room_value, c.write_each-in-2.ensures.value) in record { room_value = both.0; value = both.1 }
+    let both = whole (goal.at.returns-in-2 c).Start 2 true c.write_masked-in-2.new.room c.write_masked-in-2.result c.in-2.is c.if-masked.true (c.write_masked-in-2.ensures.room_value, c.write_masked-in-2.ensures.value) in record { room_value = both.0; value = both.1 }
 
 pub returns-in-4 : goal.returns-in-4
 returns-in-4 c =
-    let both = whole (goal.at.returns-in-4 c).Start 4 true c.write_each-in-4.new.room c.write_each-in-4.result c.in-4.is c.if-masked.true (c.write_each-in-4.ensures.room_value, c.write_each-in-4.ensures.value) in record { room_value = both.0; value = both.1 }
+    let both = whole (goal.at.returns-in-4 c).Start 4 true c.write_masked-in-4.new.room c.write_masked-in-4.result c.in-4.is c.if-masked.true (c.write_masked-in-4.ensures.room_value, c.write_masked-in-4.ensures.value) in record { room_value = both.0; value = both.1 }
 
 pub returns-in_default : goal.returns-in_default
 returns-in_default c =
-    let both = whole (goal.at.returns-in_default c).Start 8 true c.write_each-in_default.new.room c.write_each-in_default.result (let r = c.in_default.in_default-own.rest in sized (goal.at.returns-in_default c).Start r.0.0.1 r.0.1 r.1) c.if-masked.true (c.write_each-in_default.ensures.room_value, c.write_each-in_default.ensures.value) in record { room_value = both.0; value = both.1 }
+    let both = whole (goal.at.returns-in_default c).Start 8 true c.write_masked-in_default.new.room c.write_masked-in_default.result (let r = c.in_default.in_default-own.rest in sized (goal.at.returns-in_default c).Start r.0.0.1 r.0.1 r.1) c.if-masked.true (c.write_masked-in_default.ensures.room_value, c.write_masked-in_default.ensures.value) in record { room_value = both.0; value = both.1 }
 
-pub write_each-requires-in-1-w : goal.write_each-requires-in-1-w
-write_each-requires-in-1-w c =
-    let both = given (goal.at.write_each-requires-in-1-w c).Start 1 false c.if-m-eq0.false c.in-1-w.is c.if-masked.false in record { le_m = both.0; fits = both.1 }
+pub write_plain-requires : goal.write_plain-requires
+write_plain-requires c =
+    let both = given (goal.at.write_plain-requires c).Start 1 false c.if-m-eq0.false c.in-1-w.is c.if-masked.false in record { le_m = both.0; fits = both.1 }
 
-pub write_each-requires-in-2-w : goal.write_each-requires-in-2-w
-write_each-requires-in-2-w c =
-    let both = given (goal.at.write_each-requires-in-2-w c).Start 2 false c.if-m-eq0.false c.in-2-w.is c.if-masked.false in record { le_m = both.0; fits = both.1 }
+pub write_plain-requires-in-2-w : goal.write_plain-requires-in-2-w
+write_plain-requires-in-2-w c =
+    let both = given (goal.at.write_plain-requires-in-2-w c).Start 2 false c.if-m-eq0.false c.in-2-w.is c.if-masked.false in record { le_m = both.0; fits = both.1 }
 
-pub write_each-requires-in-4-w : goal.write_each-requires-in-4-w
-write_each-requires-in-4-w c =
-    let both = given (goal.at.write_each-requires-in-4-w c).Start 4 false c.if-m-eq0.false c.in-4-w.is c.if-masked.false in record { le_m = both.0; fits = both.1 }
+pub write_plain-requires-in-4-w : goal.write_plain-requires-in-4-w
+write_plain-requires-in-4-w c =
+    let both = given (goal.at.write_plain-requires-in-4-w c).Start 4 false c.if-m-eq0.false c.in-4-w.is c.if-masked.false in record { le_m = both.0; fits = both.1 }
 
-pub write_each-requires-in_default-w : goal.write_each-requires-in_default-w
-write_each-requires-in_default-w c =
-    let both = given (goal.at.write_each-requires-in_default-w c).Start 8 false c.if-m-eq0.false (let r = c.in_default-w.in_default-w-own.rest in sized (goal.at.write_each-requires-in_default-w c).Start r.0.0.1 r.0.1 r.1) c.if-masked.false in record { le_m = both.0; fits = both.1 }
+pub write_plain-requires-in_default-w : goal.write_plain-requires-in_default-w
+write_plain-requires-in_default-w c =
+    let both = given (goal.at.write_plain-requires-in_default-w c).Start 8 false c.if-m-eq0.false (let r = c.in_default-w.in_default-w-own.rest in sized (goal.at.write_plain-requires-in_default-w c).Start r.0.0.1 r.0.1 r.1) c.if-masked.false in record { le_m = both.0; fits = both.1 }
 
 pub returns-in-1-w : goal.returns-in-1-w
 returns-in-1-w c =
-    let both = whole (goal.at.returns-in-1-w c).Start 1 false c.write_each-in-1-w.new.room c.write_each-in-1-w.result c.in-1-w.is c.if-masked.false (c.write_each-in-1-w.ensures.room_value, c.write_each-in-1-w.ensures.value) in record { room_value = both.0; value = both.1 }
+    let both = whole (goal.at.returns-in-1-w c).Start 1 false c.write_plain.new.room c.write_plain.result c.in-1-w.is c.if-masked.false (c.write_plain.ensures.room_value, c.write_plain.ensures.value) in record { room_value = both.0; value = both.1 }
 
 pub returns-in-2-w : goal.returns-in-2-w
 returns-in-2-w c =
-    let both = whole (goal.at.returns-in-2-w c).Start 2 false c.write_each-in-2-w.new.room c.write_each-in-2-w.result c.in-2-w.is c.if-masked.false (c.write_each-in-2-w.ensures.room_value, c.write_each-in-2-w.ensures.value) in record { room_value = both.0; value = both.1 }
+    let both = whole (goal.at.returns-in-2-w c).Start 2 false c.write_plain-in-2-w.new.room c.write_plain-in-2-w.result c.in-2-w.is c.if-masked.false (c.write_plain-in-2-w.ensures.room_value, c.write_plain-in-2-w.ensures.value) in record { room_value = both.0; value = both.1 }
 
 pub returns-in-4-w : goal.returns-in-4-w
 returns-in-4-w c =
-    let both = whole (goal.at.returns-in-4-w c).Start 4 false c.write_each-in-4-w.new.room c.write_each-in-4-w.result c.in-4-w.is c.if-masked.false (c.write_each-in-4-w.ensures.room_value, c.write_each-in-4-w.ensures.value) in record { room_value = both.0; value = both.1 }
+    let both = whole (goal.at.returns-in-4-w c).Start 4 false c.write_plain-in-4-w.new.room c.write_plain-in-4-w.result c.in-4-w.is c.if-masked.false (c.write_plain-in-4-w.ensures.room_value, c.write_plain-in-4-w.ensures.value) in record { room_value = both.0; value = both.1 }
 
 pub returns-in_default-w : goal.returns-in_default-w
 returns-in_default-w c =
-    let both = whole (goal.at.returns-in_default-w c).Start 8 false c.write_each-in_default-w.new.room c.write_each-in_default-w.result (let r = c.in_default-w.in_default-w-own.rest in sized (goal.at.returns-in_default-w c).Start r.0.0.1 r.0.1 r.1) c.if-masked.false (c.write_each-in_default-w.ensures.room_value, c.write_each-in_default-w.ensures.value) in record { room_value = both.0; value = both.1 }
+    let both = whole (goal.at.returns-in_default-w c).Start 8 false c.write_plain-in_default-w.new.room c.write_plain-in_default-w.result (let r = c.in_default-w.in_default-w-own.rest in sized (goal.at.returns-in_default-w c).Start r.0.0.1 r.0.1 r.1) c.if-masked.false (c.write_plain-in_default-w.ensures.room_value, c.write_plain-in_default-w.ensures.value) in record { room_value = both.0; value = both.1 }
