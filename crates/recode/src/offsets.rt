@@ -6,6 +6,7 @@ ghost use Rattle.recode.specs.Recode.{lessened};
 use number::Unsigned;
 
 // n entries from `from` on, each less base, as entries of another width at `at`.
+#[inline(always)]
 pub fn less<N: Unsigned, M: Unsigned>(
     room: &mut [u8],
     at: usize,
@@ -25,6 +26,7 @@ pub fn less<N: Unsigned, M: Unsigned>(
 }
 
 // The same to a width of w2 bytes.
+#[inline(always)]
 fn less_to<N: Unsigned>(
     room: &mut [u8],
     at: usize,
@@ -47,6 +49,7 @@ fn less_to<N: Unsigned>(
 }
 
 // n entries of w bytes from `from` on, each less base, as entries of w2 bytes at `at`.
+#[inline(always)]
 pub fn recode_less(
     room: &mut [u8],
     at: usize,
