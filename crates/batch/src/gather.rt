@@ -17,6 +17,15 @@ use array_data::lent_tables;
 use nested_rows::lookups;
 use walk::plan_words;
 
+// The same of any width: a call, so that none stands where an entry is one number.
+#[inline(never)]
+fn copy_wide(room: &mut [u8], to: usize, body: &[u8], from: usize, w: u64)
+    requires { (to + w ≤ length room.old) × (from + w ≤ length body.now) }
+    ensures { room.new ≡ splice to (take w (drop from (was body))) room.old }
+{
+    number::copy::copy_bytes(room, to, body, from, w as usize);
+}
+
 // An entry of w bytes of body at `from` into room at `to`.
 fn copy_entry(room: &mut [u8], to: usize, body: &[u8], from: usize, w: u64)
     requires { (to + w ≤ length room.old) × (from + w ≤ length body.now) }
@@ -30,7 +39,15 @@ fn copy_entry(room: &mut [u8], to: usize, body: &[u8], from: usize, w: u64)
         short_copy::copy_number::<u64>(room, to, body, from);
         return;
     }
-    number::copy::copy_bytes(room, to, body, from, w as usize);
+    if w == 2 {
+        short_copy::copy_number::<u16>(room, to, body, from);
+        return;
+    }
+    if w == 1 {
+        short_copy::copy_number::<u8>(room, to, body, from);
+        return;
+    }
+    copy_wide(room, to, body, from, w);
 }
 
 // Row q of the union, if child k takes it, into room at `to`: the bytes that it has there. Row 0 of the child stands at `at`.
