@@ -17,7 +17,7 @@ use array_data::lent_tables;
 use nested_rows::lookups;
 use walk::plan_words;
 
-// The same of any width: a call, so that none stands where an entry is one number.
+// An entry of any width. A call of its own, so that `copy_entry` has none where an entry is one number.
 #[inline(never)]
 fn copy_wide(room: &mut [u8], to: usize, body: &[u8], from: usize, w: u64)
     requires { (to + w ≤ length room.old) × (from + w ≤ length body.now) }

@@ -5,7 +5,8 @@ ghost use Rattle.recode.specs.Recode.{lessened};
 
 use number::Unsigned;
 
-// n entries from `from` on, each less base, as entries of another width at `at`.
+// n entries from `from` on, each less base, as entries of another width at `at`. In line with those that call it, down from `recode`: a base
+// of 0 is not subtracted then.
 #[inline(always)]
 pub fn less<N: Unsigned, M: Unsigned>(
     room: &mut [u8],
