@@ -17,12 +17,17 @@ use array_data::lent_tables;
 use nested_rows::lookups;
 use walk::plan_words;
 
-// An entry of any width. A call of its own, so that `copy_entry` has none where an entry is one number.
+// An entry of one byte, or of any width. A call of its own, so that `copy_entry` has none where an entry is one number of more bytes; one width
+// more there makes a table of jumps, which takes a fifth more time.
 #[inline(never)]
-fn copy_wide(room: &mut [u8], to: usize, body: &[u8], from: usize, w: u64)
+fn copy_other(room: &mut [u8], to: usize, body: &[u8], from: usize, w: u64)
     requires { (to + w ≤ length room.old) × (from + w ≤ length body.now) }
     ensures { room.new ≡ splice to (take w (drop from (was body))) room.old }
 {
+    if w == 1 {
+        short_copy::copy_number::<u8>(room, to, body, from);
+        return;
+    }
     number::copy::copy_bytes(room, to, body, from, w as usize);
 }
 
@@ -43,11 +48,7 @@ fn copy_entry(room: &mut [u8], to: usize, body: &[u8], from: usize, w: u64)
         short_copy::copy_number::<u16>(room, to, body, from);
         return;
     }
-    if w == 1 {
-        short_copy::copy_number::<u8>(room, to, body, from);
-        return;
-    }
-    copy_wide(room, to, body, from, w);
+    copy_other(room, to, body, from, w);
 }
 
 // Row q of the union, if child k takes it, into room at `to`: the bytes that it has there. Row 0 of the child stands at `at`.
