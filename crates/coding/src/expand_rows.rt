@@ -1,5 +1,5 @@
 // Runs into rows: each run's value is written as often as the range has rows of it. A loop for each width, with validity and without.
-ghost use Rattle.std.specs.Prelude.{◌≡◌, ◌+◌, ◌*◌, ◌-◌, ◌≤◌, ◌<◌, min, length};
+ghost use Rattle.std.specs.Prelude.{◌≡◌, false, ◌+◌, ◌*◌, ◌-◌, ◌≤◌, ◌<◌, min, length};
 ghost use Rattle.clauses.specs.Slices.{was, left};
 ghost use Rattle.number.specs.Number.{splice};
 ghost use Rattle.utils.specs.Offsets.{repeated};
@@ -78,6 +78,7 @@ fn write_run<N: Unsigned>(
 }
 
 // m rows from run `run` on, whose first row is counted as x among the ends of e bytes from `ends` on.
+#[inline(always)]
 fn write_each<N: Unsigned>(
     room: &mut [u8],
     body: &[u8],
@@ -110,6 +111,26 @@ fn write_each<N: Unsigned>(
     }
 }
 
+// The same without validity, for run ends of 4 bytes. A function of its own, so that the loop has all registers.
+#[inline(never)]
+fn write_plain<N: Unsigned>(
+    room: &mut [u8],
+    body: &[u8],
+    s: Slots,
+    ends: usize,
+    run: usize,
+    x: u64,
+    t: Spots,
+    m: usize,
+    count: usize,
+)
+    requires ends { Ends body.now 4 ends run x m count × Held body.now N.SIZE false s.start s.mask s.bit count }
+    requires holds { Holds N.SIZE false t.values t.mask (length room.old) m }
+    ensures { room.new ≡ rows_from (was body) N.SIZE false s.start s.mask s.bit 4 ends x m t.values t.mask m 0 run room.old }
+{
+    write_each::<N>(room, body, false, s, 4, ends, run, x, t, m, count);
+}
+
 // THE ROWS of a range; a loop for each width, with validity and without, and then for run ends of 4 bytes.
 pub fn write_rows(
     room: &mut [u8],
@@ -140,10 +161,10 @@ pub fn write_rows(
     }
     if e == 4 {
         match w {
-            1 => write_each::<u8>(room, body, false, s, 4, ends, run, x, t, m, count),
-            2 => write_each::<u16>(room, body, false, s, 4, ends, run, x, t, m, count),
-            4 => write_each::<u32>(room, body, false, s, 4, ends, run, x, t, m, count),
-            _ => write_each::<u64>(room, body, false, s, 4, ends, run, x, t, m, count),
+            1 => write_plain::<u8>(room, body, s, ends, run, x, t, m, count),
+            2 => write_plain::<u16>(room, body, s, ends, run, x, t, m, count),
+            4 => write_plain::<u32>(room, body, s, ends, run, x, t, m, count),
+            _ => write_plain::<u64>(room, body, s, ends, run, x, t, m, count),
         }
         return;
     }

@@ -50,37 +50,37 @@ pub returns-in_default : goal.returns-in_default
 returns-in_default c =
     whole (goal.at.returns-in_default c).Start 8 true c.args.e c.write_each-in_default.new.room (let r = c.in_default.in_default-own.rest in sized (goal.at.returns-in_default c).Start r.0.0.1 r.0.1 r.1) c.if-masked.true refl c.write_each-in_default.ensures
 
-pub write_each-requires-in-1-w : goal.write_each-requires-in-1-w
-write_each-requires-in-1-w c =
-    let both = given (goal.at.write_each-requires-in-1-w c).Start 1 false 4 c.in-1-w.is c.if-masked.false c.if-e-eq4.true in record { ends = both.0; holds = both.1 }
+pub write_plain-requires : goal.write_plain-requires
+write_plain-requires c =
+    let both = given (goal.at.write_plain-requires c).Start 1 false 4 c.in-1-w.is c.if-masked.false c.if-e-eq4.true in record { ends = both.0; holds = both.1 }
 
-pub write_each-requires-in-2-w : goal.write_each-requires-in-2-w
-write_each-requires-in-2-w c =
-    let both = given (goal.at.write_each-requires-in-2-w c).Start 2 false 4 c.in-2-w.is c.if-masked.false c.if-e-eq4.true in record { ends = both.0; holds = both.1 }
+pub write_plain-requires-in-2-w : goal.write_plain-requires-in-2-w
+write_plain-requires-in-2-w c =
+    let both = given (goal.at.write_plain-requires-in-2-w c).Start 2 false 4 c.in-2-w.is c.if-masked.false c.if-e-eq4.true in record { ends = both.0; holds = both.1 }
 
-pub write_each-requires-in-4-w : goal.write_each-requires-in-4-w
-write_each-requires-in-4-w c =
-    let both = given (goal.at.write_each-requires-in-4-w c).Start 4 false 4 c.in-4-w.is c.if-masked.false c.if-e-eq4.true in record { ends = both.0; holds = both.1 }
+pub write_plain-requires-in-4-w : goal.write_plain-requires-in-4-w
+write_plain-requires-in-4-w c =
+    let both = given (goal.at.write_plain-requires-in-4-w c).Start 4 false 4 c.in-4-w.is c.if-masked.false c.if-e-eq4.true in record { ends = both.0; holds = both.1 }
 
-pub write_each-requires-in_default-w : goal.write_each-requires-in_default-w
-write_each-requires-in_default-w c =
-    let both = given (goal.at.write_each-requires-in_default-w c).Start 8 false 4 (let r = c.in_default-w.in_default-w-own.rest in sized (goal.at.write_each-requires-in_default-w c).Start r.0.0.1 r.0.1 r.1) c.if-masked.false c.if-e-eq4.true in record { ends = both.0; holds = both.1 }
+pub write_plain-requires-in_default-w : goal.write_plain-requires-in_default-w
+write_plain-requires-in_default-w c =
+    let both = given (goal.at.write_plain-requires-in_default-w c).Start 8 false 4 (let r = c.in_default-w.in_default-w-own.rest in sized (goal.at.write_plain-requires-in_default-w c).Start r.0.0.1 r.0.1 r.1) c.if-masked.false c.if-e-eq4.true in record { ends = both.0; holds = both.1 }
 
 pub returns-in-1-w : goal.returns-in-1-w
 returns-in-1-w c =
-    whole (goal.at.returns-in-1-w c).Start 1 false 4 c.write_each-in-1-w.new.room c.in-1-w.is c.if-masked.false c.if-e-eq4.true c.write_each-in-1-w.ensures
+    whole (goal.at.returns-in-1-w c).Start 1 false 4 c.write_plain.new.room c.in-1-w.is c.if-masked.false c.if-e-eq4.true c.write_plain.ensures
 
 pub returns-in-2-w : goal.returns-in-2-w
 returns-in-2-w c =
-    whole (goal.at.returns-in-2-w c).Start 2 false 4 c.write_each-in-2-w.new.room c.in-2-w.is c.if-masked.false c.if-e-eq4.true c.write_each-in-2-w.ensures
+    whole (goal.at.returns-in-2-w c).Start 2 false 4 c.write_plain-in-2-w.new.room c.in-2-w.is c.if-masked.false c.if-e-eq4.true c.write_plain-in-2-w.ensures
 
 pub returns-in-4-w : goal.returns-in-4-w
 returns-in-4-w c =
-    whole (goal.at.returns-in-4-w c).Start 4 false 4 c.write_each-in-4-w.new.room c.in-4-w.is c.if-masked.false c.if-e-eq4.true c.write_each-in-4-w.ensures
+    whole (goal.at.returns-in-4-w c).Start 4 false 4 c.write_plain-in-4-w.new.room c.in-4-w.is c.if-masked.false c.if-e-eq4.true c.write_plain-in-4-w.ensures
 
 pub returns-in_default-w : goal.returns-in_default-w
 returns-in_default-w c =
-    whole (goal.at.returns-in_default-w c).Start 8 false 4 c.write_each-in_default-w.new.room (let r = c.in_default-w.in_default-w-own.rest in sized (goal.at.returns-in_default-w c).Start r.0.0.1 r.0.1 r.1) c.if-masked.false c.if-e-eq4.true c.write_each-in_default-w.ensures
+    whole (goal.at.returns-in_default-w c).Start 8 false 4 c.write_plain-in_default-w.new.room (let r = c.in_default-w.in_default-w-own.rest in sized (goal.at.returns-in_default-w c).Start r.0.0.1 r.0.1 r.1) c.if-masked.false c.if-e-eq4.true c.write_plain-in_default-w.ensures
 
 pub write_each-requires-in-1-w-2 : goal.write_each-requires-in-1-w-2
 write_each-requires-in-1-w-2 c =
